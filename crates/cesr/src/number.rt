@@ -1,0 +1,1 @@
+// Big-endian numbers in lent bytes, and the sequence number.

@@ -1,0 +1,73 @@
+// A digest or a prefix: a code letter and 32 bytes (docs/RULES.md, "Bytes").
+ghost use mathlib.Core.Path.{_≡_};
+ghost use Rattle.cesr.specs.Primitives.{none, eqMatter, eqSaid, eqPrefix, isBasic, isSaid};
+
+// The material of a primitive, whatever its role: the code letter, and the 32 bytes as four big-endian words.
+pub struct Matter {
+    pub code: u8,
+    pub w0: u64,
+    pub w1: u64,
+    pub w2: u64,
+    pub w3: u64,
+}
+
+// A digest that names its own content.
+pub struct Said(pub Matter);
+
+// A prefix that is a public key.
+pub struct BasicPrefix(pub Matter);
+
+impl Matter {
+    // What stands where there is no primitive: no code letter is 0.
+    pub fn none() -> Matter
+        ensures { λ r. ⌜ r ≡ none ⌝ }
+    {
+        Matter {
+            code: 0,
+            w0: 0,
+            w1: 0,
+            w2: 0,
+            w3: 0,
+        }
+    }
+
+    pub fn same(self, other: Matter) -> bool
+        ensures { λ r. ⌜ r ≡ eqMatter self other ⌝ }
+    {
+        (self.code == other.code)
+            & (self.w0 == other.w0)
+            & (self.w1 == other.w1)
+            & (self.w2 == other.w2)
+            & (self.w3 == other.w3)
+    }
+
+    // The code letter is a basic prefix's: B or D.
+    pub fn is_basic(self) -> bool
+        ensures { λ r. ⌜ r ≡ isBasic self ⌝ }
+    {
+        (self.code == b'B') | (self.code == b'D')
+    }
+
+    // The code letter is a digest's: E to I.
+    pub fn is_said(self) -> bool
+        ensures { λ r. ⌜ r ≡ isSaid self ⌝ }
+    {
+        (b'E' <= self.code) & (self.code <= b'I')
+    }
+}
+
+impl Said {
+    pub fn same(self, other: Said) -> bool
+        ensures { λ r. ⌜ r ≡ eqSaid self other ⌝ }
+    {
+        self.0.same(other.0)
+    }
+}
+
+impl BasicPrefix {
+    pub fn same(self, other: BasicPrefix) -> bool
+        ensures { λ r. ⌜ r ≡ eqPrefix self other ⌝ }
+    {
+        self.0.same(other.0)
+    }
+}

@@ -1,0 +1,5 @@
+pub mod Configs
+pub mod Identifiers
+pub mod Members
+pub mod Seals
+pub mod Toads

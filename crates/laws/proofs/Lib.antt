@@ -1,0 +1,6 @@
+pub mod Tests
+pub mod Room
+pub mod Number
+pub mod First
+pub mod Views
+pub mod Words

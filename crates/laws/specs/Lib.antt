@@ -1,0 +1,4 @@
+pub mod Number
+pub mod Room
+pub mod First
+pub mod Words
