@@ -1,6 +1,11 @@
--- Primitives: equality, and the letters that tell their roles (docs/RULES.md, "Bytes").
-use mathlib.Core.Bool.{Bool, _&&_, _||_}
+-- Primitives: their bytes, equality, and the letters that tell their roles (docs/RULES.md, "Bytes").
+use Prim.Native.Nat.{ℕ, _+_}
+use mathlib.Core.List.{List, [], _∷_, _++_}
+use mathlib.Core.Bool.{Bool, cond, _&&_, _||_}
 use lib.Dec.{eqb, leb}
+use lib.ListN.{getD}
+use Rattle.laws.specs.Number.{number, digits}
+use Rattle.laws.specs.Room.{room}
 use Rattle.cesr.specs.declared.primitive.Matter.{Matter}
 use Rattle.cesr.specs.declared.primitive.Said.{Said}
 use Rattle.cesr.specs.declared.primitive.BasicPrefix.{BasicPrefix}
@@ -8,6 +13,17 @@ use Rattle.cesr.specs.declared.primitive.BasicPrefix.{BasicPrefix}
 -- no primitive: its code is no letter
 abbrev pub none : Matter
 none = record { code = 0; w0 = 0; w1 = 0; w2 = 0; w3 = 0 }
+
+-- its 33 bytes: the letter, then the four words
+unfoldable pub matterBytes : Matter → List ℕ
+matterBytes m = m .code ∷ digits 8 (m .w0) ++ (digits 8 (m .w1) ++ (digits 8 (m .w2) ++ digits 8 (m .w3)))
+
+-- the primitive in the 33 bytes from at, or none where they are not all there
+unfoldable pub readMatter : List ℕ → ℕ → Matter
+readMatter s at =
+    cond (room s at 33)
+    (record { code = getD s at 0; w0 = number s (at + 1) 8; w1 = number s (at + 9) 8; w2 = number s (at + 17) 8; w3 = number s (at + 25) 8 })
+    none
 
 -- equal when all 33 bytes are: the letter and the four words
 unfoldable pub eqMatter : Matter → Matter → Bool

@@ -1,1 +1,228 @@
-// Big-endian numbers in lent bytes, and the sequence number.
+// Big-endian numbers in lent bytes, and the sequence number (docs/RULES.md, "Bytes").
+// A reader answers 0 where the bytes are not all there. A writer stores all its bytes or none, and answers which.
+ghost use mathlib.Core.Path.{_≡_};
+ghost use Prim.Native.Nat.{_+_, _-_, _*_, _^_, _≤_};
+ghost use lib.ListN.{length};
+ghost use lib.Seq.{sets};
+ghost use lib.Dec.{eqb, ltb, leb};
+ghost use Rattle.laws.specs.Number.{number, numberAt, digits};
+ghost use Rattle.laws.specs.Room.{room, put};
+ghost use Rattle.cesr.specs.Numbers.{value, snOf, readSn, snBytes};
+
+// Whether a slice of len bytes has n from at.
+pub fn has_room(len: usize, at: usize, n: usize) -> bool
+    ensures { λ r. ⌜ r ≡ leb (at + n) len ⌝ }
+{
+    if len < at {
+        return false;
+    }
+    n <= len - at
+}
+
+fn wide16(x: u8) -> u16
+    ensures { λ r. ⌜ r ≡ x ⌝ }
+{
+    x as u16
+}
+
+fn wide32(x: u16) -> u32
+    ensures { λ r. ⌜ r ≡ x ⌝ }
+{
+    x as u32
+}
+
+fn wide64(x: u32) -> u64
+    ensures { λ r. ⌜ r ≡ x ⌝ }
+{
+    x as u64
+}
+
+// Each reader below is two of the one before it, with no loop, so that a word is one load.
+pub(crate) fn pair(s: &[u8], at: usize) -> u16
+    requires { ⌜ at + 2 ≤ length (now s) ⌝ }
+    ensures { λ r. ⌜ r ≡ number (now (s .entry)) at 2 ⌝ }
+{
+    wide16(s[at]) * 256 + wide16(s[at + 1])
+}
+
+pub(crate) fn quad(s: &[u8], at: usize) -> u32
+    requires { ⌜ at + 4 ≤ length (now s) ⌝ }
+    ensures { λ r. ⌜ r ≡ number (now (s .entry)) at 4 ⌝ }
+{
+    wide32(pair(s, at)) * 0x1_0000 + wide32(pair(s, at + 2))
+}
+
+pub(crate) fn word(s: &[u8], at: usize) -> u64
+    requires { ⌜ at + 8 ≤ length (now s) ⌝ }
+    ensures { λ r. ⌜ r ≡ number (now (s .entry)) at 8 ⌝ }
+{
+    wide64(quad(s, at)) * 0x1_0000_0000 + wide64(quad(s, at + 4))
+}
+
+pub fn read_u8(s: &[u8], at: usize) -> u8
+    ensures { λ r. ⌜ r ≡ numberAt (now (s .entry)) at 1 ⌝ }
+{
+    if has_room(s.len(), at, 1) {
+        return s[at];
+    }
+    0
+}
+
+pub fn read_u16(s: &[u8], at: usize) -> u16
+    ensures { λ r. ⌜ r ≡ numberAt (now (s .entry)) at 2 ⌝ }
+{
+    if has_room(s.len(), at, 2) {
+        return pair(s, at);
+    }
+    0
+}
+
+pub fn read_u32(s: &[u8], at: usize) -> u32
+    ensures { λ r. ⌜ r ≡ numberAt (now (s .entry)) at 4 ⌝ }
+{
+    if has_room(s.len(), at, 4) {
+        return quad(s, at);
+    }
+    0
+}
+
+pub fn read_u64(s: &[u8], at: usize) -> u64
+    ensures { λ r. ⌜ r ≡ numberAt (now (s .entry)) at 8 ⌝ }
+{
+    if has_room(s.len(), at, 8) {
+        return word(s, at);
+    }
+    0
+}
+
+pub(crate) fn put_pair(out: &mut [u8], at: usize, x: u16)
+    requires { ⌜ at + 2 ≤ length (now out) ⌝ }
+    ensures { λ r. ⌜ now (out .exit) ≡ sets (now (out .entry)) at (digits 2 x) ⌝ }
+{
+    out[at] = (x / 256 % 256) as u8;
+    out[at + 1] = (x % 256) as u8;
+}
+
+pub(crate) fn put_quad(out: &mut [u8], at: usize, x: u32)
+    requires { ⌜ at + 4 ≤ length (now out) ⌝ }
+    ensures { λ r. ⌜ now (out .exit) ≡ sets (now (out .entry)) at (digits 4 x) ⌝ }
+{
+    put_pair(out, at, (x / 0x1_0000) as u16);
+    put_pair(out, at + 2, (x % 0x1_0000) as u16);
+}
+
+pub(crate) fn put_word(out: &mut [u8], at: usize, x: u64)
+    requires { ⌜ at + 8 ≤ length (now out) ⌝ }
+    ensures { λ r. ⌜ now (out .exit) ≡ sets (now (out .entry)) at (digits 8 x) ⌝ }
+{
+    put_quad(out, at, (x / 0x1_0000_0000) as u32);
+    put_quad(out, at + 4, (x % 0x1_0000_0000) as u32);
+}
+
+pub fn write_u8(out: &mut [u8], at: usize, x: u8) -> bool
+    ensures { λ r. ⌜ (r ≡ room (now (out .entry)) at 1) × (now (out .exit) ≡ put (now (out .entry)) at (digits 1 x)) ⌝ }
+{
+    if !has_room(out.len(), at, 1) {
+        return false;
+    }
+    out[at] = x;
+    true
+}
+
+pub fn write_u16(out: &mut [u8], at: usize, x: u16) -> bool
+    ensures { λ r. ⌜ (r ≡ room (now (out .entry)) at 2) × (now (out .exit) ≡ put (now (out .entry)) at (digits 2 x)) ⌝ }
+{
+    if !has_room(out.len(), at, 2) {
+        return false;
+    }
+    put_pair(out, at, x);
+    true
+}
+
+pub fn write_u32(out: &mut [u8], at: usize, x: u32) -> bool
+    ensures { λ r. ⌜ (r ≡ room (now (out .entry)) at 4) × (now (out .exit) ≡ put (now (out .entry)) at (digits 4 x)) ⌝ }
+{
+    if !has_room(out.len(), at, 4) {
+        return false;
+    }
+    put_quad(out, at, x);
+    true
+}
+
+pub fn write_u64(out: &mut [u8], at: usize, x: u64) -> bool
+    ensures { λ r. ⌜ (r ≡ room (now (out .entry)) at 8) × (now (out .exit) ≡ put (now (out .entry)) at (digits 8 x)) ⌝ }
+{
+    if !has_room(out.len(), at, 8) {
+        return false;
+    }
+    put_word(out, at, x);
+    true
+}
+
+// A sequence number of 128 bits.
+pub struct Sn {
+    pub hi: u64,
+    pub lo: u64,
+}
+
+impl Sn {
+    pub fn same(self, other: Sn) -> bool
+        ensures { λ r. ⌜ r ≡ eqb (value self) (value other) ⌝ }
+    {
+        (self.hi == other.hi) & (self.lo == other.lo)
+    }
+
+    pub fn less(self, other: Sn) -> bool
+        ensures { λ r. ⌜ r ≡ ltb (value self) (value other) ⌝ }
+    {
+        (self.hi < other.hi) | ((self.hi == other.hi) & (self.lo < other.lo))
+    }
+
+    pub fn is_last(self) -> bool
+        ensures { λ r. ⌜ r ≡ eqb (value self) (2 ^ 128 - 1) ⌝ }
+    {
+        (self.hi == 0xffff_ffff_ffff_ffff) & (self.lo == 0xffff_ffff_ffff_ffff)
+    }
+
+    // After the last comes 0; whoever counts on asks `is_last` first.
+    pub fn next(self) -> Sn
+        ensures { λ r. ⌜ r ≡ snOf (value self + 1) ⌝ }
+    {
+        if self.lo < 0xffff_ffff_ffff_ffff {
+            return Sn {
+                hi: self.hi,
+                lo: self.lo + 1,
+            };
+        }
+        if self.hi < 0xffff_ffff_ffff_ffff {
+            return Sn {
+                hi: self.hi + 1,
+                lo: 0,
+            };
+        }
+        Sn { hi: 0, lo: 0 }
+    }
+
+    pub fn read(s: &[u8], at: usize) -> Sn
+        ensures { λ r. ⌜ r ≡ readSn (now (s .entry)) at ⌝ }
+    {
+        if has_room(s.len(), at, 16) {
+            return Sn {
+                hi: word(s, at),
+                lo: word(s, at + 8),
+            };
+        }
+        Sn { hi: 0, lo: 0 }
+    }
+
+    pub fn write(self, out: &mut [u8], at: usize) -> bool
+        ensures { λ r. ⌜ (r ≡ room (now (out .entry)) at 16) × (now (out .exit) ≡ put (now (out .entry)) at (snBytes self)) ⌝ }
+    {
+        if !has_room(out.len(), at, 16) {
+            return false;
+        }
+        put_word(out, at, self.hi);
+        put_word(out, at + 8, self.lo);
+        true
+    }
+}

@@ -1,6 +1,10 @@
 // A digest or a prefix: a code letter and 32 bytes (docs/RULES.md, "Bytes").
+use crate::number::has_room;
+use crate::number::put_word;
+use crate::number::word;
 ghost use mathlib.Core.Path.{_≡_};
-ghost use Rattle.cesr.specs.Primitives.{none, eqMatter, eqSaid, eqPrefix, isBasic, isSaid};
+ghost use Rattle.laws.specs.Room.{room, put};
+ghost use Rattle.cesr.specs.Primitives.{none, matterBytes, readMatter, eqMatter, eqSaid, eqPrefix, isBasic, isSaid};
 
 // The material of a primitive, whatever its role: the code letter, and the 32 bytes as four big-endian words.
 pub struct Matter {
@@ -29,6 +33,35 @@ impl Matter {
             w2: 0,
             w3: 0,
         }
+    }
+
+    pub fn read(s: &[u8], at: usize) -> Matter
+        ensures { λ r. ⌜ r ≡ readMatter (now (s .entry)) at ⌝ }
+    {
+        if has_room(s.len(), at, 33) {
+            return Matter {
+                code: s[at],
+                w0: word(s, at + 1),
+                w1: word(s, at + 9),
+                w2: word(s, at + 17),
+                w3: word(s, at + 25),
+            };
+        }
+        Matter::none()
+    }
+
+    pub fn write(self, out: &mut [u8], at: usize) -> bool
+        ensures { λ r. ⌜ (r ≡ room (now (out .entry)) at 33) × (now (out .exit) ≡ put (now (out .entry)) at (matterBytes self)) ⌝ }
+    {
+        if !has_room(out.len(), at, 33) {
+            return false;
+        }
+        out[at] = self.code;
+        put_word(out, at + 1, self.w0);
+        put_word(out, at + 9, self.w1);
+        put_word(out, at + 17, self.w2);
+        put_word(out, at + 25, self.w3);
+        true
     }
 
     pub fn same(self, other: Matter) -> bool

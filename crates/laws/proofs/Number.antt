@@ -3,6 +3,7 @@
 --     number-below, digits-bytes   the range of a number, and of its bytes
 --     number-digits, number-at     what was written reads back
 --     digits-number                what was read writes the same bytes
+--     read-whole, read-none        what a reader that tests for room answers
 --     at-put, put-at               both, through `numberAt` and `put`
 use Prim.Native.Nat.{ℕ, zero, suc, _+_, _*_, _/_, _%_, _^_, _<_, _≤_}
 use mathlib.Core.Path.{_≡_, refl, ap, sym, _∙_}
@@ -12,12 +13,12 @@ use native.Mathlib.Nat.{add-zero, add-suc, add-assoc, mul-assoc, mul-one, zero-a
 use native.Mathlib.Numerals.{add-one}
 use native.Mathlib.Omega.{arith}
 use lib.Arith.{digits-lt, digits-div, digits-mod, mod-mul}
-use lib.Dec.{lit<}
+use lib.Dec.{leb, lit<}
 use lib.ListN.{length, getD, take, drop, length-append, length-take, length-drop, List·getD-append, take-append-drop}
 use lib.Seq.{sets, sets-eq, length-take-le, getD-append-add, getD-at, take-suc, getD-drop}
 use Rattle.laws.specs.Room.{room, put}
 use Rattle.laws.specs.Number.{number, numberAt, digits, Bytes}
-use Rattle.laws.proofs.Room.{true-room, room-true, put-sets, length-put, stored-same}
+use Rattle.laws.proofs.Room.{true-room, room-true, put-sets, length-put, sets-append, stored-same}
 
 pub number-step : (s : List ℕ) (at n : ℕ) → number s at (n + 1) ≡ number s at n * 256 + getD s (at + n) 0
 unfolding number
@@ -93,6 +94,19 @@ digits-number (suc n) s at b h =
     ∙ ap (λ (y : ℕ). digits n q ++ (y ∷ [])) (digits-mod q (b (at + n)))
     ∙ ap (λ (r : List ℕ). r ++ (getD s (at + n) 0 ∷ [])) (digits-number n s at b (omega arith))
     ∙ sym (take-suc (drop at s) n 0 l ∙ rw getD-drop)
+
+-- a number stored as its upper bytes, then its lower ones
+pub sets-digits : (l : List ℕ) (at n m x : ℕ) → sets (sets l at (digits n (x / 256 ^ m))) (at + n) (digits m (x % 256 ^ m)) ≡ sets l at (digits (n + m) x)
+sets-digits l at n m x = rw (digits-split n m x, sets-append, length-digits, digits-rest)
+
+-- what a reader that tests for room answers
+pub read-whole : (s : List ℕ) (at n : ℕ) → leb (at + n) (length s) ≡ true → numberAt s at n ≡ number s at n
+unfolding numberAt room
+read-whole s at n h = rw h
+
+pub read-none : (s : List ℕ) (at n : ℕ) → leb (at + n) (length s) ≡ false → numberAt s at n ≡ 0
+unfolding numberAt room
+read-none s at n h = rw h
 
 pub whole-number : (s : List ℕ) (at n : ℕ) → at + n ≤ length s → numberAt s at n ≡ number s at n
 unfolding numberAt

@@ -4,6 +4,7 @@
 --     put-none               where there is none, nothing is
 --     put-append             two runs, one behind the other, are one
 --     sets-append, sets-snoc the same for a run with no test
+--     stored, refused        what a writer that tests for room leaves and answers
 --     stored-same            elements stored where they stand change nothing
 use Prim.Native.Nat.{ℕ, zero, suc, _+_, _<_, _≤_}
 use mathlib.Core.Path.{_≡_, refl, ap, sym, _∙_}
@@ -66,6 +67,14 @@ module _ {A : Type 0} where
       go : (b : Bool) → length (cond b (sets l at vs) l) ≡ length l
       go true = length-sets l at vs
       go false = refl
+
+  pub stored : (l : List A) (at n : ℕ) (vs m : List A) → length vs ≡ n → leb (at + n) (length l) ≡ true → m ≡ sets l at vs → (true ≡ room l at n) × (m ≡ put l at vs)
+  unfolding room
+  stored l at n vs m e h f = (sym h, f ∙ sym (put-sets l at n vs e (leb-true (at + n) (length l) h)))
+
+  pub refused : (l : List A) (at n : ℕ) (vs : List A) → length vs ≡ n → leb (at + n) (length l) ≡ false → (false ≡ room l at n) × (l ≡ put l at vs)
+  unfolding room
+  refused l at n vs e h = (sym h, sym (put-none l at n vs e (leb-false (at + n) (length l) h)))
 
   -- where both runs find room
   pub put-append : (l : List A) (at n m : ℕ) (vs ws : List A) → length vs ≡ n → length ws ≡ m → at + n + m ≤ length l → put (put l at vs) (at + n) ws ≡ put l at (vs ++ ws)

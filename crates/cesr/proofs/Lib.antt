@@ -1,0 +1,3 @@
+pub mod Words
+pub mod Matters
+pub mod Round

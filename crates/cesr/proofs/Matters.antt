@@ -1,0 +1,60 @@
+-- Laws of primitives.
+--     matter-sets              a primitive is stored letter by word
+--     length-matter            it has 33 bytes
+--     eq-matter, matter-eq     equality as a test, and as a path
+use Prim.Native.Nat.{ℕ, suc, _+_}
+use mathlib.Core.Path.{_≡_, refl, ap, sym, _∙_}
+use mathlib.Core.List.{List, [], _∷_, _++_}
+use mathlib.Core.Bool.{Bool, true, false, cond, _&&_}
+use native.Mathlib.Nat.{add-assoc}
+use native.Mathlib.Numerals.{add-one}
+use native.Mathlib.Omega.{arith}
+use borrow.Author.Tests.{eq-eqb, eqb-true}
+use lib.Dec.{leb, eqb}
+use lib.ListN.{length, set, length-append}
+use lib.Seq.{sets}
+use Rattle.laws.specs.Number.{number, digits}
+use Rattle.laws.specs.Room.{room}
+use Rattle.laws.proofs.Number.{length-digits}
+use Rattle.laws.proofs.Room.{sets-append}
+use Rattle.laws.proofs.Tests.{and-left, and-right}
+use Rattle.cesr.specs.declared.primitive.Matter.{Matter}
+use Rattle.cesr.specs.Primitives.{none, matterBytes, readMatter, eqMatter}
+
+pub made : {a b c d e a' b' c' d' e' : ℕ} → a ≡ a' → b ≡ b' → c ≡ c' → d ≡ d' → e ≡ e' → _≡_ {A = Matter} (record { code = a; w0 = b; w1 = c; w2 = d; w3 = e }) (record { code = a'; w0 = b'; w1 = c'; w2 = d'; w3 = e' })
+made p q r s t = cc
+
+pub matter-sets : (l : List ℕ) (at : ℕ) (m : Matter) → sets (sets (sets (sets (set l at (m .code)) (at + 1) (digits 8 (m .w0))) (at + 9) (digits 8 (m .w1))) (at + 17) (digits 8 (m .w2))) (at + 25) (digits 8 (m .w3)) ≡ sets l at (matterBytes m)
+unfolding matterBytes
+matter-sets l at m = simp (sets-append, length-digits, add-assoc) (rw (add-one at))
+
+pub length-matter : (m : Matter) → length (matterBytes m) ≡ 33
+unfolding matterBytes
+length-matter m = simp (length-append, length-digits)
+
+-- what a reader that tests for room answers
+pub matter-whole : (s : List ℕ) (at : ℕ) (m : Matter) → leb (at + 33) (length s) ≡ true → m ≡ cond true (record { code = lib.ListN.getD s at 0; w0 = number s (at + 1) 8; w1 = number s (at + 9) 8; w2 = number s (at + 17) 8; w3 = number s (at + 25) 8 }) none → m ≡ readMatter s at
+unfolding readMatter room
+matter-whole s at m h e = rw h e
+
+pub matter-none : (s : List ℕ) (at : ℕ) → leb (at + 33) (length s) ≡ false → none ≡ readMatter s at
+unfolding readMatter room
+matter-none s at h = rw h
+
+-- the test is true of equal primitives alone
+pub matter-eq : (a b : Matter) → eqMatter a b ≡ true → a ≡ b
+unfolding eqMatter
+matter-eq a b h =
+    let t0 = eqb (a .code) (b .code) in
+    let t1 = eqb (a .w0) (b .w0) in
+    let t2 = eqb (a .w1) (b .w1) in
+    let t3 = eqb (a .w2) (b .w2) in
+    let t4 = eqb (a .w3) (b .w3) in
+    let h3 = and-left (t0 && t1 && t2 && t3) t4 h in
+    let h2 = and-left (t0 && t1 && t2) t3 h3 in
+    let h1 = and-left (t0 && t1) t2 h2 in
+    made (eqb-true (a .code) (b .code) (and-left t0 t1 h1)) (eqb-true (a .w0) (b .w0) (and-right t0 t1 h1)) (eqb-true (a .w1) (b .w1) (and-right (t0 && t1) t2 h2)) (eqb-true (a .w2) (b .w2) (and-right (t0 && t1 && t2) t3 h3)) (eqb-true (a .w3) (b .w3) (and-right (t0 && t1 && t2 && t3) t4 h))
+
+pub eq-matter : (a : Matter) → eqMatter a a ≡ true
+unfolding eqMatter
+eq-matter a = rw (eq-eqb (a .code) (a .code) refl, eq-eqb (a .w0) (a .w0) refl, eq-eqb (a .w1) (a .w1) refl, eq-eqb (a .w2) (a .w2) refl, eq-eqb (a .w3) (a .w3) refl)
