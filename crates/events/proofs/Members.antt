@@ -1,11 +1,16 @@
 -- Laws of lists of backers, and of the rules on them.
---     view-size, view-at, view-push       an array and a count, seen as a list
---     has-append, has-at, has-place       what `has` says of two lists joined, and of a place
---     sound-all, all-sound, broken-at     what a check's answer says of the places
---     sound-distinct, distinct-sound      the same of a list without repeats
---     check-offends, else-offends         an answer's position breaks the rule that it names
+--     view-size, view-at, view-push     an array and a count, seen as a list
+--     has-at, has-place, has-none       whether a prefix is in a list, and at which place
+--     has-member, has-found             the same with equal prefixes
+--     all-sound, sound-all              a rule is kept where no place breaks it, and there alone
+--     broken-rule, broken-below, broken-breaks, broken-least
+--                                       a refusal names the rule that was checked, and the least place that breaks it
+--     distinct-sound, sound-distinct, sound-apart
+--                                       a list is sound where no element stands before its place too, and there alone
+--     members-offends, deltas-offends, current-offends
+--                                       the element at the position of an answer breaks the rule that it names
 use Prim.Native.Nat.{ℕ, zero, suc, _+_, _<_, _≤_, min}
-use mathlib.Core.Path.{_≡_, refl, ap, sym, subst, _∙_}
+use mathlib.Core.Path.{_≡_, refl, ap, sym, _∙_}
 use mathlib.Core.Bool.{Bool, true, false, cond, _||_, or-true, or-false, true≢false, false≢true}
 use mathlib.Core.List.{List, [], _∷_, _++_}
 use native.Mathlib.Omega.{arith}
@@ -24,6 +29,7 @@ use Rattle.events.specs.declared.member_set.Rule.the-variants.{Duplicate
 use Rattle.events.specs.declared.member_set.Membership.{Membership}
 use Rattle.events.specs.declared.member_set.Membership.the-variants.{Sound, Broken}
 use Rattle.events.specs.Members.{view, noPrefix, at, pushed, has, membershipNumber, breaks, check, orElse, checkMembers, checkDeltas, checkCurrent, Lists, subject, against, Offends}
+use Rattle.events.proofs.Prefixes.{prefix-refl, prefix-equal}
 
 module _ (m : Members) (h : length (m .items) ≡ 16) where
   pub view-size : length (view m) ≡ min (m .count) 16
@@ -83,6 +89,13 @@ has-none x l e k b = go (eqPrefix (at l k) x) refl
     go : (t : Bool) → eqPrefix (at l k) x ≡ t → eqPrefix (at l k) x ≡ false
     go true p = absurd (true≢false (sym (has-at x l k b p) ∙ e))
     go false p = p
+
+-- equality is a prefix's own, so the same holds of the prefixes themselves
+pub has-member : (l : List BasicPrefix) (k : ℕ) → k < length l → has (at l k) l ≡ true
+has-member l k b = has-at (at l k) l k b (prefix-refl (at l k))
+
+pub has-found : (x : BasicPrefix) (l : List BasicPrefix) → has x l ≡ true → (k : ℕ) × (k < length l) × (at l k ≡ x)
+has-found x l e = let w = has-place x l e in (w .0, w .1, prefix-equal (at l (w .0)) x (w .2))
 
 -- one element more is looked at
 pub has-step : (x : BasicPrefix) (l : List BasicPrefix) (i : ℕ) → i < length l → has x (take (i + 1) l) ≡ (has x (take i l) || eqPrefix (at l i) x)
@@ -144,6 +157,12 @@ sound-distinct l e = sound-all DuplicateBacker l [] e
 pub distinct-sound : (l : List BasicPrefix) → ((i : ℕ) → i < length l → has (at l i) (take i l) ≡ false) → checkMembers l ≡ Sound
 unfolding checkMembers breaks
 distinct-sound l h = all-sound DuplicateBacker l [] h
+
+-- two places of a sound list have two prefixes
+pub sound-apart : (l : List BasicPrefix) → checkMembers l ≡ Sound → (i j : ℕ) → i < j → j < length l → at l i ≡ at l j → ⊥
+sound-apart l e i j b h q =
+    let u : eqPrefix (at l i) (at l j) ≡ true = rw q (prefix-refl (at l j)) in
+    true≢false (sym (has-below (at l j) l j i b (omega arith) u) ∙ sound-distinct l e j h)
 
 check-offends : (r : Rule) (s : Lists) → Offends (check r (subject r s) (against r s)) s
 unfolding check Offends

@@ -1,4 +1,4 @@
--- Lists of backers, and the rules on a list and on what a rotation cuts from it and adds to it (docs/RULES.md, refusal 24).
+-- Lists of backers, and the rules on a list and on what a rotation cuts from it and adds to it (docs/RULES.md, "Lists of backers").
 use Prim.Native.Nat.{ℕ, _<_}
 use mathlib.Core.Path.{_≡_}
 use mathlib.Core.Bool.{Bool, true, false, not, cond, _||_}

@@ -1,9 +1,9 @@
-// Lists of at most 16 backers by value, and the rules on them (docs/RULES.md, refusal 24).
+// Lists of at most 16 backers by value, and the rules on them (docs/RULES.md, "Lists of backers").
 use cesr::primitive::BasicPrefix;
 use cesr::primitive::Matter;
 ghost use mathlib.Core.Path.{_≡_};
 ghost use mathlib.Core.Bool.{false};
-ghost use mathlib.Core.List.{[], _∷_, _++_};
+ghost use mathlib.Core.List.{[]};
 ghost use Prim.Native.Nat.{_≤_, _<_};
 ghost use lib.ListN.{length, take};
 ghost use lib.Dec.{ltb};
