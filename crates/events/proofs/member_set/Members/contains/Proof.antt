@@ -1,5 +1,4 @@
 use borrow.Author.Needs.{needs}
-use mathlib.Core.Path.{_≡_, refl, _∙_}
 use lib.Seq.{take-length}
 use Rattle.events.specs.Members.{view}
 use Rattle.events.proofs.member_set.Members.contains.Statement.{statement}
