@@ -1,1 +1,196 @@
-// To come.
+// Lists of at most 16 backers by value, and the rules on them (docs/RULES.md, "Lists of backers").
+use cesr::primitive::BasicPrefix;
+use cesr::primitive::Matter;
+ghost use mathlib.Core.Path.{_≡_};
+ghost use mathlib.Core.Bool.{false};
+ghost use mathlib.Core.List.{[]};
+ghost use Prim.Native.Nat.{_≤_, _<_};
+ghost use lib.ListN.{length, take};
+ghost use lib.Dec.{ltb};
+ghost use Rattle.events.specs.Members.{view, noPrefix, at, pushed, has, breaks, check, orElse, checkMembers, checkDeltas, checkCurrent, Offends};
+
+// The members are the first `count` of the items.
+pub struct Members {
+    pub items: [BasicPrefix; 16],
+    pub count: usize,
+}
+
+// What `push` answers: whether there was a place, and the list.
+pub struct Pushed {
+    pub ok: bool,
+    pub members: Members,
+}
+
+// The rules, in the order of their numbers.
+pub enum Rule {
+    DuplicateBacker,
+    DuplicateCut,
+    DuplicateAddition,
+    CutAddOverlap,
+    RemovalNotCurrent,
+    AdditionAlreadyPresent,
+}
+
+// The answer of a check. `at` is the position, from 0, of an element that breaks the rule.
+pub enum Membership {
+    Sound,
+    Broken { rule: Rule, at: usize },
+}
+
+impl Members {
+    pub fn empty() -> Members
+        ensures { λ r. ⌜ view r ≡ [] ⌝ }
+    {
+        Members {
+            items: [no_prefix(); 16],
+            count: 0,
+        }
+    }
+
+    // How many there are: at most 16, whatever the count says.
+    pub fn size(self) -> usize
+        ensures { λ r. ⌜ r ≡ length (view self) ⌝ }
+        ensures { λ r. ⌜ length (view self) ≤ 16 ⌝ }
+    {
+        let n = self.count;
+        if 16 < n { 16 } else { n }
+    }
+
+    // The member at `i`, or no prefix past the end.
+    pub fn item(self, i: usize) -> BasicPrefix
+        ensures { λ r. ⌜ r ≡ at (view self) i ⌝ }
+    {
+        if i < self.size() {
+            self.items[i]
+        } else {
+            no_prefix()
+        }
+    }
+
+    // `p` behind the others. Where 16 are held the list comes back as it was.
+    pub fn push(self, p: BasicPrefix) -> Pushed
+        ensures ok { λ r. ⌜ r .ok ≡ ltb (length (view self)) 16 ⌝ }
+        ensures list { λ r. ⌜ view (r .members) ≡ pushed (view self) p ⌝ }
+        ensures kept { λ r. ⌜ (r .ok ≡ false → r .members ≡ self) ⌝ }
+    {
+        let n = self.count;
+        if n < 16 {
+            let mut m = self;
+            m.items[n] = p;
+            m.count = n + 1;
+            Pushed {
+                ok: true,
+                members: m,
+            }
+        } else {
+            Pushed {
+                ok: false,
+                members: self,
+            }
+        }
+    }
+
+    pub fn contains(self, x: BasicPrefix) -> bool
+        ensures { λ r. ⌜ r ≡ has x (view self) ⌝ }
+    {
+        self.contains_below(self.size(), x)
+    }
+
+    // Whether `x` is among the first `n`.
+    fn contains_below(self, n: usize, x: BasicPrefix) -> bool
+        requires { ⌜ n ≤ length (view self) ⌝ }
+        ensures { λ r. ⌜ r ≡ has x (take n (view self)) ⌝ }
+    {
+        let mut i: usize = 0;
+        while i < n {
+            if self.item(i).same(x) {
+                return true;
+            }
+            i += 1;
+        }
+        false
+    }
+}
+
+// The checks of lists of backers.
+pub struct MemberSet;
+
+impl MemberSet {
+    // No backer stands twice.
+    pub fn check_members(members: Members) -> Membership
+        ensures answer { λ r. ⌜ r ≡ checkMembers (view members) ⌝ }
+        ensures offends { λ r. ⌜ Offends r (record { backers = view members; cuts = []; additions = [] }) ⌝ }
+    {
+        check_rule(Rule::DuplicateBacker, members, Members::empty())
+    }
+
+    // No cut stands twice, no addition stands twice, and no cut is added.
+    pub fn check_deltas(cuts: Members, additions: Members) -> Membership
+        ensures answer { λ r. ⌜ r ≡ checkDeltas (view cuts) (view additions) ⌝ }
+        ensures offends { λ r. ⌜ Offends r (record { backers = []; cuts = view cuts; additions = view additions }) ⌝ }
+    {
+        let none = Members::empty();
+        let cut = check_rule(Rule::DuplicateCut, cuts, none);
+        let addition = check_rule(Rule::DuplicateAddition, additions, none);
+        let overlap = check_rule(Rule::CutAddOverlap, cuts, additions);
+        or_else(cut, or_else(addition, overlap))
+    }
+
+    // Each cut is a current backer, and no addition is one.
+    pub fn check_current(current: Members, cuts: Members, additions: Members) -> Membership
+        ensures answer { λ r. ⌜ r ≡ checkCurrent (view current) (view cuts) (view additions) ⌝ }
+        ensures offends { λ r. ⌜ Offends r (record { backers = view current; cuts = view cuts; additions = view additions }) ⌝ }
+    {
+        let cut = check_rule(Rule::RemovalNotCurrent, cuts, current);
+        let addition = check_rule(Rule::AdditionAlreadyPresent, additions, current);
+        or_else(cut, addition)
+    }
+}
+
+// What stands where there is no member.
+fn no_prefix() -> BasicPrefix
+    ensures { λ r. ⌜ r ≡ noPrefix ⌝ }
+{
+    BasicPrefix(Matter::none())
+}
+
+// Whether the element at `i` of the list breaks the rule, held against the other list.
+fn breaks_at(rule: Rule, list: Members, other: Members, i: usize) -> bool
+    requires { ⌜ i < length (view list) ⌝ }
+    ensures { λ r. ⌜ r ≡ breaks rule (view list) (view other) i ⌝ }
+{
+    let x = list.item(i);
+    match rule {
+        Rule::DuplicateBacker => list.contains_below(i, x),
+        Rule::DuplicateCut => list.contains_below(i, x),
+        Rule::DuplicateAddition => list.contains_below(i, x),
+        Rule::CutAddOverlap => other.contains(x),
+        Rule::RemovalNotCurrent => !other.contains(x),
+        Rule::AdditionAlreadyPresent => other.contains(x),
+    }
+}
+
+// One rule on a list: the first place that breaks it.
+fn check_rule(rule: Rule, list: Members, other: Members) -> Membership
+    ensures { λ r. ⌜ r ≡ check rule (view list) (view other) ⌝ }
+{
+    let n = list.size();
+    let mut i: usize = 0;
+    while i < n {
+        if breaks_at(rule, list, other, i) {
+            return Membership::Broken { rule, at: i };
+        }
+        i += 1;
+    }
+    Membership::Sound
+}
+
+// The first refusal of two.
+fn or_else(a: Membership, b: Membership) -> Membership
+    ensures { λ r. ⌜ r ≡ orElse a b ⌝ }
+{
+    match a {
+        Membership::Sound => b,
+        Membership::Broken { rule, at } => Membership::Broken { rule, at },
+    }
+}
