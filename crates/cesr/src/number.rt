@@ -19,44 +19,38 @@ pub fn has_room(len: usize, at: usize, n: usize) -> bool
     n <= len - at
 }
 
-fn wide16(x: u8) -> u16
-    ensures { λ r. ⌜ r ≡ x ⌝ }
+// Sums of at most four bytes, with no loop: the compiler makes one load and a swap of its bytes of each reader below.
+fn join2(a: u8, b: u8) -> u16
+    ensures { λ r. ⌜ r ≡ a * 256 + b ⌝ }
 {
-    x as u16
+    (a as u16) * 0x100 + (b as u16)
 }
 
-fn wide32(x: u16) -> u32
-    ensures { λ r. ⌜ r ≡ x ⌝ }
+fn join4(a: u8, b: u8, c: u8, d: u8) -> u32
+    ensures { λ r. ⌜ r ≡ ((a * 256 + b) * 256 + c) * 256 + d ⌝ }
 {
-    x as u32
+    (a as u32) * 0x100_0000 + (b as u32) * 0x1_0000 + (c as u32) * 0x100 + (d as u32)
 }
 
-fn wide64(x: u32) -> u64
-    ensures { λ r. ⌜ r ≡ x ⌝ }
-{
-    x as u64
-}
-
-// Each reader below is two of the one before it, with no loop, so that a word is one load.
 pub(crate) fn pair(s: &[u8], at: usize) -> u16
     requires { ⌜ at + 2 ≤ length (now s) ⌝ }
     ensures { λ r. ⌜ r ≡ number (now (s .entry)) at 2 ⌝ }
 {
-    wide16(s[at]) * 256 + wide16(s[at + 1])
+    join2(s[at], s[at + 1])
 }
 
 pub(crate) fn quad(s: &[u8], at: usize) -> u32
     requires { ⌜ at + 4 ≤ length (now s) ⌝ }
     ensures { λ r. ⌜ r ≡ number (now (s .entry)) at 4 ⌝ }
 {
-    wide32(pair(s, at)) * 0x1_0000 + wide32(pair(s, at + 2))
+    join4(s[at], s[at + 1], s[at + 2], s[at + 3])
 }
 
 pub(crate) fn word(s: &[u8], at: usize) -> u64
     requires { ⌜ at + 8 ≤ length (now s) ⌝ }
     ensures { λ r. ⌜ r ≡ number (now (s .entry)) at 8 ⌝ }
 {
-    wide64(quad(s, at)) * 0x1_0000_0000 + wide64(quad(s, at + 4))
+    (quad(s, at) as u64) * 0x1_0000_0000 + (quad(s, at + 4) as u64)
 }
 
 pub fn read_u8(s: &[u8], at: usize) -> u8

@@ -1,48 +1,47 @@
-use mathlib.Core.Path.{sym}
-use denote.Ref.{now}
+use native.Mathlib.Nat.{add-zero, zero-mul, zero-add}
 use borrow.Author.Needs.{needs}
-use Rattle.laws.proofs.Number.{number-split}
+use Rattle.laws.specs.Number.{number}
 use Rattle.cesr.proofs.number.quad.Statement.{statement}
 use Rattle.cesr.proofs.number.quad.Tie as tie
 
-pair-requires : tie.Need-pair-requires
-pair-requires c κs = search needs
+shared-slice-read-join4 : tie.Need-shared-slice-read-join4
+shared-slice-read-join4 c = search needs
 
-wide32-requires : tie.Need-wide32-requires
-wide32-requires c κs = search needs
+add-join4 : tie.Need-add-join4
+add-join4 c = search needs
 
-mul-result : tie.Need-mul-result
-mul-result c = search needs
+shared-slice-read-join4-2 : tie.Need-shared-slice-read-join4-2
+shared-slice-read-join4-2 c = search needs
 
-add-pair : tie.Need-add-pair
-add-pair c = search needs
+add-join4-2 : tie.Need-add-join4-2
+add-join4-2 c = search needs
 
-pair-requires-2 : tie.Need-pair-requires-2
-pair-requires-2 c κs = search needs
+shared-slice-read-join4-3 : tie.Need-shared-slice-read-join4-3
+shared-slice-read-join4-3 c = search needs
 
-wide32-requires-2 : tie.Need-wide32-requires-2
-wide32-requires-2 c κs = search needs
+add-join4-3 : tie.Need-add-join4-3
+add-join4-3 c = search needs
 
-add-result : tie.Need-add-result
-add-result c = search needs
+shared-slice-read-join4-4 : tie.Need-shared-slice-read-join4-4
+shared-slice-read-join4-4 c = search needs
+
+join4-requires : tie.Need-join4-requires
+join4-requires c κs = search needs
 
 returns : tie.Need-returns
-returns c =
-    let b1 = c .before in
-    let b2 = b1 .before in
-    let b3 = b2 .before in
-    let a = b3 .before .before .args in
-    rw (c .wide322 .ensures, b1 .pair2 .ensures, b2 .wide32 .ensures, b3 .pair .ensures) (sym (number-split (now (a .s)) (a .at) 2 2))
+unfolding number
+returns c = rw (c .join4 .ensures, add-zero, zero-mul, zero-add)
 
 pub quad-spec : {M : Type 1} → statement M
 quad-spec =
     tie.close
     (tie.spec
-    pair-requires
-    wide32-requires
-    mul-result
-    add-pair
-    pair-requires-2
-    wide32-requires-2
-    add-result
+    shared-slice-read-join4
+    add-join4
+    shared-slice-read-join4-2
+    add-join4-2
+    shared-slice-read-join4-3
+    add-join4-3
+    shared-slice-read-join4-4
+    join4-requires
     returns)
