@@ -2,6 +2,7 @@
 --     matter-sets              a primitive is stored letter by word
 --     length-matter            it has 33 bytes
 --     eq-matter, matter-eq     equality as a test, and as a path
+--     eq-said, said-eq, eq-prefix, prefix-eq   the same in either role
 use Prim.Native.Nat.{ℕ, suc, _+_}
 use mathlib.Core.Path.{_≡_, refl, ap, sym, _∙_}
 use mathlib.Core.List.{List, [], _∷_, _++_}
@@ -19,7 +20,9 @@ use Rattle.laws.proofs.Number.{length-digits}
 use Rattle.laws.proofs.Room.{sets-append}
 use Rattle.laws.proofs.Tests.{and-left, and-right}
 use Rattle.cesr.specs.declared.primitive.Matter.{Matter}
-use Rattle.cesr.specs.Primitives.{none, matterBytes, readMatter, eqMatter}
+use Rattle.cesr.specs.declared.primitive.Said.{Said}
+use Rattle.cesr.specs.declared.primitive.BasicPrefix.{BasicPrefix}
+use Rattle.cesr.specs.Primitives.{none, matterBytes, readMatter, eqMatter, eqSaid, eqPrefix}
 
 pub made : {a b c d e a' b' c' d' e' : ℕ} → a ≡ a' → b ≡ b' → c ≡ c' → d ≡ d' → e ≡ e' → _≡_ {A = Matter} (record { code = a; w0 = b; w1 = c; w2 = d; w3 = e }) (record { code = a'; w0 = b'; w1 = c'; w2 = d'; w3 = e' })
 made p q r s t = cc
@@ -58,3 +61,15 @@ matter-eq a b h =
 pub eq-matter : (a : Matter) → eqMatter a a ≡ true
 unfolding eqMatter
 eq-matter a = rw (eq-eqb (a .code) (a .code) refl, eq-eqb (a .w0) (a .w0) refl, eq-eqb (a .w1) (a .w1) refl, eq-eqb (a .w2) (a .w2) refl, eq-eqb (a .w3) (a .w3) refl)
+
+pub eq-said : (a : Said) → eqSaid a a ≡ true
+eq-said a = eq-matter (a .0)
+
+pub said-eq : (a b : Said) → eqSaid a b ≡ true → a ≡ b
+said-eq a b e = ap (λ (m : Matter). record { 0 = m }) (matter-eq (a .0) (b .0) e)
+
+pub eq-prefix : (a : BasicPrefix) → eqPrefix a a ≡ true
+eq-prefix a = eq-matter (a .0)
+
+pub prefix-eq : (a b : BasicPrefix) → eqPrefix a b ≡ true → a ≡ b
+prefix-eq a b e = ap (λ (m : Matter). record { 0 = m }) (matter-eq (a .0) (b .0) e)

@@ -23,13 +23,13 @@ use Rattle.laws.proofs.First.{first-none, first-found, first-holds, first-least
 use Rattle.laws.proofs.Views.{kept-size, kept-at, kept-push, take-step}
 use Rattle.cesr.specs.declared.primitive.BasicPrefix.{BasicPrefix}
 use Rattle.cesr.specs.Primitives.{eqPrefix}
+use Rattle.cesr.proofs.Matters.{eq-prefix, prefix-eq}
 use Rattle.events.specs.declared.member_set.Members.{Members}
 use Rattle.events.specs.declared.member_set.Rule.{Rule}
 use Rattle.events.specs.declared.member_set.Rule.the-variants.{DuplicateBacker, DuplicateCut, DuplicateAddition, CutAddOverlap, RemovalNotCurrent, AdditionAlreadyPresent}
 use Rattle.events.specs.declared.member_set.Membership.{Membership}
 use Rattle.events.specs.declared.member_set.Membership.the-variants.{Sound, Broken}
 use Rattle.events.specs.Members.{view, noPrefix, at, pushed, has, membershipNumber, breaks, check, orElse, checkMembers, checkDeltas, checkCurrent, Lists, subject, against, Offends}
-use Rattle.events.proofs.Prefixes.{prefix-refl, prefix-equal}
 
 module _ (m : Members) (h : length (m .items) ≡ 16) where
   pub view-size : length (view m) ≡ min (m .count) 16
@@ -92,10 +92,10 @@ has-none x l e k b = go (eqPrefix (at l k) x) refl
 
 -- equality is a prefix's own, so the same holds of the prefixes themselves
 pub has-member : (l : List BasicPrefix) (k : ℕ) → k < length l → has (at l k) l ≡ true
-has-member l k b = has-at (at l k) l k b (prefix-refl (at l k))
+has-member l k b = has-at (at l k) l k b (eq-prefix (at l k))
 
 pub has-found : (x : BasicPrefix) (l : List BasicPrefix) → has x l ≡ true → (k : ℕ) × (k < length l) × (at l k ≡ x)
-has-found x l e = let w = has-place x l e in (w .0, w .1, prefix-equal (at l (w .0)) x (w .2))
+has-found x l e = let w = has-place x l e in (w .0, w .1, prefix-eq (at l (w .0)) x (w .2))
 
 -- one element more is looked at
 pub has-step : (x : BasicPrefix) (l : List BasicPrefix) (i : ℕ) → i < length l → has x (take (i + 1) l) ≡ (has x (take i l) || eqPrefix (at l i) x)
@@ -161,7 +161,7 @@ distinct-sound l h = all-sound DuplicateBacker l [] h
 -- two places of a sound list have two prefixes
 pub sound-apart : (l : List BasicPrefix) → checkMembers l ≡ Sound → (i j : ℕ) → i < j → j < length l → at l i ≡ at l j → ⊥
 sound-apart l e i j b h q =
-    let u : eqPrefix (at l i) (at l j) ≡ true = rw q (prefix-refl (at l j)) in
+    let u : eqPrefix (at l i) (at l j) ≡ true = rw q (eq-prefix (at l j)) in
     true≢false (sym (has-below (at l j) l j i b (omega arith) u) ∙ sound-distinct l e j h)
 
 check-offends : (r : Rule) (s : Lists) → Offends (check r (subject r s) (against r s)) s
