@@ -120,12 +120,12 @@ impl Configs {
     pub fn same(self, other: Configs) -> bool
         ensures { λ r. ⌜ r ≡ sameList (viewConfigs self) (viewConfigs other) ⌝ }
     {
-        let n = self.size();
-        if n != other.size() {
+        let size = self.size();
+        if size != other.size() {
             return false;
         }
         let mut i: usize = 0;
-        while i < n {
+        while i < size {
             if self.item(i) != other.item(i) {
                 return false;
             }

@@ -1,4 +1,4 @@
-use Prim.Native.Nat.{ℕ, _≤_, _<_, _-_}
+use Prim.Native.Nat.{ℕ, _<_, _-_, _^_}
 use mathlib.Core.Path.{_≡_, sym, _∙_}
 use native.Mathlib.Omega.{arith}
 use borrow.Author.Count.{below-more}
@@ -10,10 +10,10 @@ use Rattle.events.proofs.config.Configs.same.Statement.{statement}
 use Rattle.events.proofs.config.Configs.same.Tie as tie
 
 abbrev Inv-loop : tie.InvT-loop
-Inv-loop self other n i₀ i = (i ≤ n) × ((k : ℕ) → k < i → getD (viewConfigs self) k 0 ≡ getD (viewConfigs other) k 0)
+Inv-loop self other size i₀ i = (k : ℕ) → k < i → getD (viewConfigs self) k 0 ≡ getD (viewConfigs other) k 0
 
 abbrev μ-loop : tie.MeasureT-loop
-μ-loop self other n i₀ i = n - i
+μ-loop self other size i₀ i = 2 ^ 64 - i
 
 size-requires : tie.Need-size-requires Inv-loop μ-loop
 size-requires c κs = search needs
@@ -28,7 +28,7 @@ returns c =
     sym (same-lengths (viewConfigs (a .self)) (viewConfigs (a .other)) (λ e. c .if1 .taken (b1 .before .size .ensures ∙ e ∙ sym (b1 .size2 .ensures))))
 
 loop-holds : tie.Need-loop-holds Inv-loop μ-loop
-loop-holds c = (search needs, λ k h. absurd (omega arith))
+loop-holds c = λ k h. absurd (omega arith)
 
 item-requires : tie.Need-item-requires Inv-loop μ-loop
 item-requires c κs = search needs
@@ -54,7 +54,7 @@ loop-again : tie.Need-loop-again Inv-loop μ-loop
 loop-again c =
     let b1 = c .before in
     let b2 = b1 .before in
-    (search needs, below-more _ _ (b2 .before .before .loop .inv .1) (sym (b2 .item .ensures) ∙ c .if2 .left ∙ b1 .item2 .ensures))
+    below-more _ _ (b2 .before .before .loop .inv) (sym (b2 .item .ensures) ∙ c .if2 .left ∙ b1 .item2 .ensures)
 
 returns-3 : tie.Need-returns-3 Inv-loop μ-loop
 returns-3 c =
@@ -62,7 +62,7 @@ returns-3 c =
     let b2 = b1 .before in
     let b3 = b2 .before in
     let a = b3 .before .before .args in
-    sym (same-agree (viewConfigs (a .self)) (viewConfigs (a .other)) (sym (b3 .before .size .ensures) ∙ b2 .if1 .left ∙ b3 .size2 .ensures) (λ k h. b1 .loop .inv .1 k (omega arith)))
+    sym (same-agree (viewConfigs (a .self)) (viewConfigs (a .other)) (sym (b3 .before .size .ensures) ∙ b2 .if1 .left ∙ b3 .size2 .ensures) (λ k h. b1 .loop .inv k (omega arith)))
 
 pub same-spec : {M : Type 1} → statement M
 same-spec =

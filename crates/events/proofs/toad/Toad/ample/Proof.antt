@@ -1,3 +1,4 @@
+use native.Mathlib.Omega.{arith}
 use borrow.Author.Tests.{le-leb, lt-leb}
 use Rattle.events.specs.Toads.{ampleOf}
 use borrow.Author.Needs.{needs}
@@ -12,11 +13,11 @@ cast-t4 c = search needs
 
 returns : tie.Need-returns
 unfolding ampleOf
-returns c = rw (← c .before .least .ensures, le-leb (c .before .least .result) 4294967295 (c .if1 .taken))
+returns c = rw (← c .before .least .ensures, le-leb (c .before .least .result) 4294967295 (omega arith))
 
 returns-2 : tie.Need-returns-2
 unfolding ampleOf
-returns-2 c = rw (← c .before .least .ensures, lt-leb (c .before .least .result) 4294967295 (c .if1 .left))
+returns-2 c = rw (← c .before .least .ensures, lt-leb (c .before .least .result) 4294967295 (omega arith))
 
 pub ample-spec : {M : Type 1} → statement M
 ample-spec = tie.close (tie.spec least-requires cast-t4 returns returns-2)
