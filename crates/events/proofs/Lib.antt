@@ -1,2 +1,4 @@
+pub mod Configs
 pub mod Identifiers
 pub mod Members
+pub mod Toads
