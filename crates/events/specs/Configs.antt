@@ -1,4 +1,4 @@
--- Configuration traits, and lists of their bytes (docs/RULES.md, "Bytes").
+-- Configuration traits, and lists of their bytes (docs/RULES.md, "Configuration traits").
 use Prim.Native.Nat.{ℕ}
 use mathlib.Core.List.{List, [], _∷_, _++_}
 use mathlib.Core.Bool.{Bool, false, cond, _||_}

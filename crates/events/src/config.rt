@@ -1,4 +1,4 @@
-// Configuration traits, and lists of their bytes (docs/RULES.md, "Bytes").
+// Configuration traits, and lists of their bytes (docs/RULES.md, "Configuration traits").
 ghost use mathlib.Core.Path.{_≡_};
 ghost use mathlib.Core.Bool.{false};
 ghost use mathlib.Core.List.{[]};
