@@ -1,9 +1,9 @@
 -- Laws of text.
---     same-test        a test that is true of equal lists alone is `sameList`
---     rest-whole, rest-past  a part that goes to the end
---     digit-..         what one more digit makes of a number
---     number-step      a loop reads a number digit by digit
-use Prim.Native.Nat.{ℕ, suc, _+_, _-_, _*_, _<_, _≤_}
+--     same-test                a test that is true of equal lists alone is `sameList`
+--     rest-whole, rest-past    a part that goes to the end
+--     digit-..                 what one more digit makes of a number
+--     number-step              a loop reads a number digit by digit
+use Prim.Native.Nat.{ℕ, _+_, _-_, _*_, _^_, _<_, _≤_}
 use mathlib.Core.Path.{_≡_, refl, sym, _∙_}
 use mathlib.Core.Bool.{Bool, true, false, cond, _&&_, false≢true}
 use mathlib.Core.List.{List}
@@ -46,18 +46,18 @@ module _ (n : Decimal) (b : ℕ) where
     unfolding withDigit isDigit
     digit-above l = rw (h, le-leb 48 b (omega arith), lt-leb b 57 l)
 
-    pub digit-wide : 48 ≤ b → b ≤ 57 → 18446744073709551616 ≤ n .value * 10 + (b - 48) → withDigit n b ≡ none
+    pub digit-wide : 48 ≤ b → b ≤ 57 → 2 ^ 64 ≤ n .value * 10 + (b - 48) → withDigit n b ≡ none
     unfolding withDigit isDigit
-    digit-wide l m w = rw (h, le-leb 48 b l, le-leb b 57 m, le-ltb (n .value * 10 + (b - 48)) 18446744073709551616 w)
+    digit-wide l m w = rw (h, le-leb 48 b l, le-leb b 57 m, le-ltb (n .value * 10 + (b - 48)) (2 ^ 64) w)
 
-    pub digit-good : 48 ≤ b → b ≤ 57 → n .value * 10 + (b - 48) < 18446744073709551616 → withDigit n b ≡ some (n .value * 10 + (b - 48))
+    pub digit-good : 48 ≤ b → b ≤ 57 → n .value * 10 + (b - 48) < 2 ^ 64 → withDigit n b ≡ some (n .value * 10 + (b - 48))
     unfolding withDigit isDigit
-    digit-good l m w = rw (h, le-leb 48 b l, le-leb b 57 m, lt-ltb (n .value * 10 + (b - 48)) 18446744073709551616 w)
+    digit-good l m w = rw (h, le-leb 48 b l, le-leb b 57 m, lt-ltb (n .value * 10 + (b - 48)) (2 ^ 64) w)
 
-digit-more : (v b : ℕ) (d l : Bool) → ltb v 18446744073709551616 ≡ l → withDigit (cond (d && l) (some v) none) b ≡ cond ((d && isDigit b) && ltb (v * 10 + (b - 48)) 18446744073709551616) (some (v * 10 + (b - 48))) none
+digit-more : (v b : ℕ) (d l : Bool) → ltb v (2 ^ 64) ≡ l → withDigit (cond (d && l) (some v) none) b ≡ cond ((d && isDigit b) && ltb (v * 10 + (b - 48)) (2 ^ 64)) (some (v * 10 + (b - 48))) none
 unfolding withDigit
 digit-more v b true true e = refl
-digit-more v b true false e = rw (le-ltb (v * 10 + (b - 48)) 18446744073709551616 (omega (arith, ltb-false v 18446744073709551616 e))) (never (isDigit b))
+digit-more v b true false e = rw (le-ltb (v * 10 + (b - 48)) (2 ^ 64) (omega (arith, ltb-false v (2 ^ 64) e))) (never (isDigit b))
   where
     never : (g : Bool) → none ≡ cond (g && false) (some (v * 10 + (b - 48))) none
     never true = refl
@@ -67,4 +67,4 @@ digit-more v b false false e = refl
 
 pub number-step : (s : List ℕ) (i : ℕ) → withDigit (numberTo s i) (getD s i 0) ≡ numberTo s (i + 1)
 unfolding numberTo allDigits valueOf
-number-step s i = rw add-one (digit-more (valueOf s i) (getD s i 0) (allDigits s i) (ltb (valueOf s i) 18446744073709551616) refl)
+number-step s i = rw add-one (digit-more (valueOf s i) (getD s i 0) (allDigits s i) (ltb (valueOf s i) (2 ^ 64)) refl)

@@ -12,6 +12,7 @@ use Rattle.thresholds.specs.declared.Verdict.{Verdict}
 use Rattle.thresholds.specs.declared.Verdict.the-variants.{Exact, Ample, Unread}
 use Rattle.thresholds.specs.Texts.{headOf, restOf, numberOf}
 
+-- after `exact`: a threshold of 32 bits, a count, and the refusal's number
 unfoldable pub judgeExact : Decimal → Decimal → Decimal → Verdict
 judgeExact toad count answer =
     cond (toad .ok && count .ok && answer .ok)
@@ -24,6 +25,7 @@ sameToad (Valid t) n = n .ok && eqb (t .0) (n .value)
 sameToad (OutOfRange t k) n = not (n .ok)
 sameToad (Overflow k) n = not (n .ok)
 
+-- after `ample`: a count, the refusal's number, and the threshold or `-`
 unfoldable pub judgeAmple : Decimal → Decimal → Decimal → Bool → Verdict
 judgeAmple count answer toad dash =
     cond (count .ok && answer .ok && (toad .ok || dash))

@@ -9,11 +9,10 @@ use libc::STDIN_FILENO;
 use libc::STDOUT_FILENO;
 use text::Decimal;
 ghost use mathlib.Core.Path.{_≡_};
-ghost use Prim.Native.Nat.{_≤_};
 ghost use Rattle.thresholds.specs.Judgement.{judgeExact, sameToad, judgeAmple, judgeOf};
 
 // What is found of a line.
-pub enum Verdict {
+enum Verdict {
     // Whether the answer is what the call gives.
     Exact(bool),
     Ample(bool),

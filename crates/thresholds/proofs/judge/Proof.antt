@@ -1,10 +1,10 @@
 use mathlib.Core.Path.{_≡_, sym, _∙_}
 use mathlib.Core.Bool.{true, false}
+use borrow.Author.Needs.{needs}
 use denote.Ref.{now}
 use Rattle.laws.specs.Words.{sameList}
 use Rattle.thresholds.specs.Texts.{headOf}
 use Rattle.thresholds.specs.Judgement.{exactWord, ampleWord, judgeOf}
-use borrow.Author.Needs.{needs}
 use Rattle.thresholds.proofs.judge.Statement.{statement}
 use Rattle.thresholds.proofs.judge.Tie as tie
 

@@ -1,8 +1,8 @@
 use mathlib.Core.Path.{_≡_}
 use mathlib.Core.Bool.{true, false, _&&_, _||_}
 use borrow.Author.Tests.{not-true, not-false}
-use Rattle.thresholds.specs.Judgement.{judgeAmple}
 use borrow.Author.Needs.{needs}
+use Rattle.thresholds.specs.Judgement.{judgeAmple}
 use Rattle.thresholds.proofs.judge_ample.Statement.{statement}
 use Rattle.thresholds.proofs.judge_ample.Tie as tie
 

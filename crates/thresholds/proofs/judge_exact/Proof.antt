@@ -1,8 +1,8 @@
 use mathlib.Core.Path.{_≡_}
 use mathlib.Core.Bool.{true, false, _&&_}
 use borrow.Author.Tests.{not-true, not-false, le-leb, lt-leb}
-use Rattle.thresholds.specs.Judgement.{judgeExact}
 use borrow.Author.Needs.{needs}
+use Rattle.thresholds.specs.Judgement.{judgeExact}
 use Rattle.thresholds.proofs.judge_exact.Statement.{statement}
 use Rattle.thresholds.proofs.judge_exact.Tie as tie
 

@@ -1,7 +1,6 @@
 use Prim.Native.Nat.{_-_}
-use native.Mathlib.Omega.{arith}
-use lib.ListN.{length}
 use borrow.Author.Needs.{needs}
+use lib.ListN.{length}
 use Rattle.thresholds.proofs.run.Statement.{statement}
 use Rattle.thresholds.proofs.run.Tie as tie
 

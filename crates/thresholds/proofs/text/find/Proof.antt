@@ -4,12 +4,12 @@ use mathlib.Core.Bool.{false}
 use native.Mathlib.Omega.{arith}
 use borrow.Author.Count.{below-more}
 use borrow.Author.Tests.{eq-eqb, ne-eqb}
+use borrow.Author.Needs.{needs}
 use denote.Ref.{now}
 use lib.Dec.{eqb}
 use lib.ListN.{length, getD}
 use Rattle.laws.proofs.First.{first-found, first-none}
 use Rattle.thresholds.specs.Texts.{placeOf}
-use borrow.Author.Needs.{needs}
 use Rattle.thresholds.proofs.text.find.Statement.{statement}
 use Rattle.thresholds.proofs.text.find.Tie as tie
 

@@ -1,7 +1,7 @@
 use mathlib.Core.Path.{sym}
+use borrow.Author.Needs.{needs}
 use lib.Seq.{length-take-le}
 use Rattle.thresholds.specs.Texts.{headOf}
-use borrow.Author.Needs.{needs}
 use Rattle.thresholds.proofs.text.head.Statement.{statement}
 use Rattle.thresholds.proofs.text.head.Tie as tie
 

@@ -1,12 +1,12 @@
 use Prim.Native.Nat.{_≤_, _-_}
-use mathlib.Core.Path.{_≡_, refl, ap, sym, _∙_}
+use mathlib.Core.Path.{_≡_, refl, _∙_}
 use native.Mathlib.Omega.{arith}
 use borrow.Author.Tests.{ne-eqb}
+use borrow.Author.Needs.{needs}
 use denote.Ref.{now}
 use lib.ListN.{length}
 use Rattle.thresholds.specs.Texts.{allDigits, valueOf, numberTo, numberOf}
 use Rattle.thresholds.proofs.Texts.{number-step}
-use borrow.Author.Needs.{needs}
 use Rattle.thresholds.proofs.text.number.Statement.{statement}
 use Rattle.thresholds.proofs.text.number.Tie as tie
 

@@ -1,9 +1,9 @@
 use mathlib.Core.Path.{_∙_}
 use native.Mathlib.Omega.{arith}
+use borrow.Author.Needs.{needs}
 use denote.Ref.{now}
 use Rattle.thresholds.specs.Texts.{restOf}
 use Rattle.thresholds.proofs.Texts.{rest-whole, rest-past}
-use borrow.Author.Needs.{needs}
 use Rattle.thresholds.proofs.text.rest.Statement.{statement}
 use Rattle.thresholds.proofs.text.rest.Tie as tie
 

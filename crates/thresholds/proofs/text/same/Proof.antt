@@ -1,6 +1,6 @@
-use Rattle.thresholds.proofs.Texts.{same-test}
-use denote.Ref.{now}
 use borrow.Author.Needs.{needs}
+use denote.Ref.{now}
+use Rattle.thresholds.proofs.Texts.{same-test}
 use Rattle.thresholds.proofs.text.same.Statement.{statement}
 use Rattle.thresholds.proofs.text.same.Tie as tie
 

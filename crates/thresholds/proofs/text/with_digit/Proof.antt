@@ -1,8 +1,8 @@
 use mathlib.Core.Path.{sym, _∙_}
 use native.Mathlib.Omega.{arith}
 use borrow.Author.Tests.{not-true, not-false}
-use Rattle.thresholds.proofs.Texts.{digit-stopped, digit-below, digit-above, digit-wide, digit-good}
 use borrow.Author.Needs.{needs}
+use Rattle.thresholds.proofs.Texts.{digit-stopped, digit-below, digit-above, digit-wide, digit-good}
 use Rattle.thresholds.proofs.text.with_digit.Statement.{statement}
 use Rattle.thresholds.proofs.text.with_digit.Tie as tie
 
