@@ -1,21 +1,23 @@
 -- Laws of configuration traits and of lists of their bytes.
---     trait-code, code-trait         a trait's byte reads back as the trait, and no other byte does
---     view-size, view-at, view-push  the list that a struct holds
---     has-at, has-none               how a loop finds a byte in a list
+--     trait-code, code-trait    a trait's byte reads back as the trait, and no other byte does
+--     view-size, view-at        the list that a struct holds
+--     room-below, room-full     when there is room for one more
+--     view-push, view-full      what becomes of the list
+--     has-at, has-none          how a loop finds a byte in a list
 use Prim.Native.Nat.{ℕ, zero, suc, _+_, _<_, _≤_, min}
 use mathlib.Core.Path.{_≡_, refl}
 use mathlib.Core.Bool.{Bool, true, false, cond, _||_}
-use mathlib.Core.List.{List, [], _∷_, _++_}
+use mathlib.Core.List.{List, [], _∷_}
 use native.Mathlib.Omega.{arith}
 use borrow.Author.Tests.{lt-ltb, le-ltb, eq-eqb, ne-eqb, eqb-true}
 use lib.Dec.{eqb}
-use lib.ListN.{length, getD, set, take}
+use lib.ListN.{length, getD, set}
 use Rattle.laws.proofs.Views.{kept-size, kept-at, kept-push}
 use Rattle.events.specs.declared.config.Configs.{Configs}
 use Rattle.events.specs.declared.config.ConfigTrait.{ConfigTrait}
 use Rattle.events.specs.declared.config.ConfigTrait.the-variants.{EstOnly, DoNotDelegate, NoBackers, RegistrarBackers, NoRegistrarBackers, DelegateIsDelegator}
 use Rattle.events.specs.declared.config.TraitRead.{TraitRead}
-use Rattle.events.specs.declared.config.TraitRead.the-variants.{Trait, UnknownConfigTrait}
+use Rattle.events.specs.declared.config.TraitRead.the-variants.{Trait}
 use Rattle.events.specs.Configs.{codeOf, traitOf, viewConfigs, hasRoom, pushed, hasCode}
 
 pub trait-code : (t : ConfigTrait) → traitOf (codeOf t) ≡ Trait t
@@ -30,17 +32,17 @@ trait-code DelegateIsDelegator = refl
 pub code-trait : (n : ℕ) (t : ConfigTrait) → traitOf n ≡ Trait t → codeOf t ≡ n
 unfolding traitOf
 code-trait n t =
-    try 1 EstOnly _ refl
-    (try 2 DoNotDelegate _ refl
-    (try 3 NoBackers _ refl
-    (try 4 RegistrarBackers _ refl
-    (try 5 NoRegistrarBackers _ refl
-    (try 6 DelegateIsDelegator _ refl
+    step 1 EstOnly _ refl
+    (step 2 DoNotDelegate _ refl
+    (step 3 NoBackers _ refl
+    (step 4 RegistrarBackers _ refl
+    (step 5 NoRegistrarBackers _ refl
+    (step 6 DelegateIsDelegator _ refl
     (λ e. cc))))))
   where
     -- one test of the chain
-    try : (k : ℕ) (u : ConfigTrait) (rest : TraitRead) → codeOf u ≡ k → (rest ≡ Trait t → codeOf t ≡ n) → cond (eqb n k) (Trait u) rest ≡ Trait t → codeOf t ≡ n
-    try k u rest d h = go (eqb n k) refl
+    step : (k : ℕ) (u : ConfigTrait) (rest : TraitRead) → codeOf u ≡ k → (rest ≡ Trait t → codeOf t ≡ n) → cond (eqb n k) (Trait u) rest ≡ Trait t → codeOf t ≡ n
+    step k u rest d h = go (eqb n k) refl
       where
         go : (b : Bool) → eqb n k ≡ b → cond b (Trait u) rest ≡ Trait t → codeOf t ≡ n
         go true q e = let p : n ≡ k = eqb-true n k q in cc

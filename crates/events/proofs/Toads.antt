@@ -45,7 +45,7 @@ ample-exact n =
     ]
 
 pub exact-number : (t n : ℕ) → toadNumber (exactOf t n) ≡ cond (exactOk t n) 0 26
-unfolding toadNumber exactOf
+unfolding exactOf
 exact-number t n = go (exactOk t n)
   where
     go : (b : Bool) → toadNumber (cond b (Valid (toadOf t)) (OutOfRange t n)) ≡ cond b 0 26
@@ -53,7 +53,7 @@ exact-number t n = go (exactOk t n)
     go false = refl
 
 pub ample-number : (n : ℕ) → toadNumber (ampleOf n) ≡ cond (leb (leastOf n) 4294967295) 0 26
-unfolding toadNumber ampleOf
+unfolding ampleOf
 ample-number n = go (leb (leastOf n) 4294967295)
   where
     go : (b : Bool) → toadNumber (cond b (Valid (toadOf (leastOf n))) (Overflow n)) ≡ cond b 0 26

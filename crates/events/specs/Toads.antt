@@ -10,7 +10,7 @@ abbrev pub toadOf : ℕ → Toad
 toadOf t = record { 0 = t }
 
 -- the refusal's number: 26 where there is no threshold
-unfoldable pub toadNumber : ToadResult → ℕ
+abbrev pub toadNumber : ToadResult → ℕ
 toadNumber (Valid t) = 0
 toadNumber (OutOfRange t n) = 26
 toadNumber (Overflow n) = 26

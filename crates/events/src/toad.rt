@@ -1,7 +1,7 @@
 // The threshold of receipts: how many backers have to sign (docs/RULES.md, "Thresholds").
 ghost use mathlib.Core.Path.{_≡_};
 ghost use Prim.Native.Nat.{_<_, _^_, min, max};
-ghost use Rattle.events.specs.Toads.{toadOf, exactOk, exactOf, ceil, strongMajority, leastOf, ampleOf};
+ghost use Rattle.events.specs.Toads.{toadOf, toadNumber, exactOk, exactOf, ceil, strongMajority, leastOf, ampleOf};
 
 // Wraps its number, so that a threshold is never taken for a count of receipts or of backers.
 pub struct Toad(u32);
@@ -13,6 +13,22 @@ pub enum ToadResult {
     OutOfRange { toad: u32, witnesses: usize },
     // The threshold of so many witnesses does not fit 32 bits.
     Overflow { witnesses: usize },
+}
+
+impl ToadResult {
+    // The refusal's number, or 0 where there is a threshold.
+    pub fn number(self) -> u8
+        ensures { λ r. ⌜ r ≡ toadNumber self ⌝ }
+    {
+        match self {
+            ToadResult::Valid(_) => 0,
+            ToadResult::OutOfRange {
+                toad: _,
+                witnesses: _,
+            } => 26,
+            ToadResult::Overflow { witnesses: _ } => 26,
+        }
+    }
 }
 
 fn min(a: usize, b: usize) -> usize

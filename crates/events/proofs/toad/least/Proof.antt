@@ -1,7 +1,7 @@
-use borrow.Author.Tests.{ne-eqb}
 use native.Mathlib.Omega.{arith}
-use Rattle.events.specs.Toads.{ceil, leastOf}
+use borrow.Author.Tests.{ne-eqb}
 use borrow.Author.Needs.{needs}
+use Rattle.events.specs.Toads.{ceil, leastOf}
 use Rattle.events.proofs.toad.least.Statement.{statement}
 use Rattle.events.proofs.toad.least.Tie as tie
 

@@ -1,6 +1,6 @@
 use native.Mathlib.Omega.{arith}
-use Rattle.events.specs.Toads.{ceil, strongMajority}
 use borrow.Author.Needs.{needs}
+use Rattle.events.specs.Toads.{ceil, strongMajority}
 use Rattle.events.proofs.toad.least_strong_majority.Statement.{statement}
 use Rattle.events.proofs.toad.least_strong_majority.Tie as tie
 

@@ -2,10 +2,10 @@ use Prim.Native.Nat.{ℕ, _≤_, _<_, _-_}
 use mathlib.Core.Path.{_≡_, sym, _∙_}
 use native.Mathlib.Omega.{arith}
 use borrow.Author.Count.{below-more}
+use borrow.Author.Needs.{needs}
 use lib.ListN.{getD}
 use Rattle.events.specs.Configs.{viewConfigs}
 use Rattle.events.proofs.Configs.{has-at, has-none}
-use borrow.Author.Needs.{needs}
 use Rattle.events.proofs.config.Configs.has.Statement.{statement}
 use Rattle.events.proofs.config.Configs.has.Tie as tie
 

@@ -1,9 +1,9 @@
 use mathlib.Core.Path.{_≡_, sym}
 use native.Mathlib.Omega.{arith}
+use borrow.Author.Needs.{needs}
 use lib.ListN.{length, List·getD-eq-default}
 use Rattle.events.specs.Configs.{viewConfigs}
 use Rattle.events.proofs.Configs.{view-size, view-at}
-use borrow.Author.Needs.{needs}
 use Rattle.events.proofs.config.Configs.item.Statement.{statement}
 use Rattle.events.proofs.config.Configs.item.Tie as tie
 

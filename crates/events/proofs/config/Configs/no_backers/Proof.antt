@@ -1,5 +1,5 @@
-use Rattle.events.specs.Configs.{noBackers}
 use borrow.Author.Needs.{needs}
+use Rattle.events.specs.Configs.{noBackers}
 use Rattle.events.proofs.config.Configs.no_backers.Statement.{statement}
 use Rattle.events.proofs.config.Configs.no_backers.Tie as tie
 

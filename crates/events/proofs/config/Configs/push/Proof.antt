@@ -1,9 +1,9 @@
 use mathlib.Core.Path.{_≡_, refl, sym}
 use mathlib.Core.Bool.{true≢false}
 use native.Mathlib.Omega.{arith}
+use borrow.Author.Needs.{needs}
 use lib.ListN.{length}
 use Rattle.events.proofs.Configs.{room-below, room-full, view-push, view-full}
-use borrow.Author.Needs.{needs}
 use Rattle.events.proofs.config.Configs.push.Statement.{statement}
 use Rattle.events.proofs.config.Configs.push.Tie as tie
 

@@ -2,10 +2,10 @@ use Prim.Native.Nat.{ℕ, _<_, _-_, _^_}
 use mathlib.Core.Path.{_≡_, sym, _∙_}
 use native.Mathlib.Omega.{arith}
 use borrow.Author.Count.{below-more}
+use borrow.Author.Needs.{needs}
 use lib.ListN.{getD}
 use Rattle.laws.proofs.Words.{same-lengths, same-differ, same-agree}
 use Rattle.events.specs.Configs.{viewConfigs}
-use borrow.Author.Needs.{needs}
 use Rattle.events.proofs.config.Configs.same.Statement.{statement}
 use Rattle.events.proofs.config.Configs.same.Tie as tie
 

@@ -1,7 +1,7 @@
 use native.Mathlib.Omega.{arith}
 use borrow.Author.Tests.{le-leb, lt-leb}
-use Rattle.events.specs.Toads.{ampleOf}
 use borrow.Author.Needs.{needs}
+use Rattle.events.specs.Toads.{ampleOf}
 use Rattle.events.proofs.toad.Toad.ample.Statement.{statement}
 use Rattle.events.proofs.toad.Toad.ample.Tie as tie
 

@@ -1,5 +1,5 @@
-use Rattle.events.specs.Toads.{exactOf}
 use borrow.Author.Needs.{needs}
+use Rattle.events.specs.Toads.{exactOf}
 use Rattle.events.proofs.toad.Toad.exact.Statement.{statement}
 use Rattle.events.proofs.toad.Toad.exact.Tie as tie
 

@@ -1,6 +1,6 @@
 use borrow.Author.Tests.{ne-eqb}
-use Rattle.events.specs.Toads.{exactOk}
 use borrow.Author.Needs.{needs}
+use Rattle.events.specs.Toads.{exactOk}
 use Rattle.events.proofs.toad.Toad.is_exact.Statement.{statement}
 use Rattle.events.proofs.toad.Toad.is_exact.Tie as tie
 
