@@ -1,1 +1,3 @@
 pub mod Readers
+pub mod Events
+pub mod Layout

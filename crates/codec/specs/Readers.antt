@@ -62,8 +62,8 @@ readIf test s c = record { value = readMatter s (c .at); next = need (advanced s
 unfoldable pub isIdentifier : Matter → Bool
 isIdentifier m = isBasic m || isSaid m
 
-abbrev pub readIdentifier : Reader Matter
-readIdentifier = readIf isIdentifier
+unfoldable pub readIdentifier : Reader Matter
+readIdentifier s c = readIf isIdentifier s c
 
 -- what a reader gives, under another form
 abbrev pub mapped : {A B : Type 0} → (A → B) → Reader A → Reader B
@@ -75,19 +75,30 @@ saidOf m = record { 0 = m }
 abbrev pub prefixOf : Matter → BasicPrefix
 prefixOf m = record { 0 = m }
 
-abbrev pub readSaid : Reader Said
-readSaid = mapped saidOf (readIf isSaid)
+unfoldable pub readSaid : Reader Said
+readSaid s c = mapped saidOf (readIf isSaid) s c
 
-abbrev pub readPrefix : Reader BasicPrefix
-readPrefix = mapped prefixOf (readIf isBasic)
+unfoldable pub readPrefix : Reader BasicPrefix
+readPrefix s c = mapped prefixOf (readIf isBasic) s c
 
--- one reader, then another
-abbrev pub both : {A B : Type 0} → Reader A → Reader B → Reader (A × B)
-both p q s c = let a = p s c in let b = q s (a .next) in record { value = (a .value, b .value); next = b .next }
+-- a byte that passes a test
+unfoldable pub readByteIf : (ℕ → Bool) → Reader ℕ
+readByteIf test s c = record { value = readByte s c .value; next = need (readByte s c .next) (test (readByte s c .value)) }
 
 -- a count byte that has to be n
 unfoldable pub counted : ℕ → List ℕ → Cursor → Cursor
 counted n s c = need (readByte s c .next) (eqb (readByte s c .value) n)
+
+-- one reader, then another
+abbrev pub both : {A B : Type 0} → Reader A → Reader B → Reader (A × B)
+both p q s c = record { value = (p s c .value, q s (p s c .next) .value); next = q s (p s c .next) .next }
+
+-- a count that has to be n, then a reader; and a reader, then a count that has to be n
+abbrev pub after : {A : Type 0} → ℕ → Reader A → Reader A
+after n p s c = p s (counted n s c)
+
+abbrev pub ended : {A : Type 0} → Reader A → ℕ → Reader A
+ended p n s c = record { value = p s c .value; next = counted n s (p s c .next) }
 
 -- n elements, one behind the other
 unfoldable pub times : {A : Type 0} → ℕ → Reader A → Reader (List A)

@@ -59,12 +59,3 @@ ample-number n = go (leb (leastOf n) 4294967295)
     go : (b : Bool) → toadNumber (cond b (Valid (toadOf (leastOf n))) (Overflow n)) ≡ cond b 0 26
     go true = refl
     go false = refl
-
--- worked examples
-exacts : (exactOk 0 0 ≡ true) × (exactOk 1 0 ≡ false) × (exactOk 0 1 ≡ false) × (exactOk 16 16 ≡ true) × (exactOk 17 16 ≡ false)
-unfolding exactOk
-exacts = (refl, refl, refl, refl, refl)
-
-amples : (leastOf 0 ≡ 0) × (leastOf 1 ≡ 1) × (leastOf 4 ≡ 3) × (leastOf 6 ≡ 4) × (leastOf 7 ≡ 5)
-unfolding leastOf strongMajority ceil
-amples = (refl, refl, refl, refl, refl)

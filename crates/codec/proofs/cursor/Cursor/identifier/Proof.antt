@@ -1,4 +1,4 @@
-use Rattle.codec.specs.Readers.{readIf, isIdentifier}
+use Rattle.codec.specs.Readers.{readIdentifier, readIf, isIdentifier}
 use borrow.Author.Needs.{needs}
 use Rattle.codec.proofs.cursor.Cursor.identifier.Statement.{statement}
 use Rattle.codec.proofs.cursor.Cursor.identifier.Tie as tie
@@ -19,7 +19,7 @@ expect-that-requires : tie.Need-expect-that-requires
 expect-that-requires c κs = search needs
 
 returns : tie.Need-returns
-unfolding readIf isIdentifier
+unfolding readIdentifier readIf isIdentifier
 returns c =
     let b1 = c .before in
     let b2 = b1 .before in

@@ -1,4 +1,4 @@
-use Rattle.codec.specs.Readers.{readIf}
+use Rattle.codec.specs.Readers.{readPrefix, readIf}
 use borrow.Author.Needs.{needs}
 use Rattle.codec.proofs.cursor.Cursor.prefix.Statement.{statement}
 use Rattle.codec.proofs.cursor.Cursor.prefix.Tie as tie
@@ -16,7 +16,7 @@ expect-that-requires : tie.Need-expect-that-requires
 expect-that-requires c κs = search needs
 
 returns : tie.Need-returns
-unfolding readIf
+unfolding readPrefix readIf
 returns c =
     let b1 = c .before in
     let b2 = b1 .before in
