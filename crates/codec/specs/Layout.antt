@@ -11,8 +11,9 @@ use Rattle.cesr.specs.declared.number.Sn.{Sn}
 use Rattle.cesr.specs.declared.primitive.Matter.{Matter}
 use Rattle.cesr.specs.declared.primitive.Said.{Said}
 use Rattle.cesr.specs.declared.primitive.BasicPrefix.{BasicPrefix}
-use Rattle.events.specs.Identifiers.{matterOf, identifierOf}
-use Rattle.events.specs.Seals.{kindOf}
+use Rattle.events.specs.Identifiers.{matterOf}
+use Rattle.events.specs.declared.identifier.Identifier.{Identifier}
+use Rattle.events.specs.declared.identifier.Identifier.the-variants.{Basic, SelfAddressing}
 use Rattle.events.specs.TelEvents.{Event}
 use Rattle.events.specs.TelEvents.Event.{vcp, vrt, iss, rev, bis, brv}
 use Rattle.events.specs.declared.seal.Seal.{Seal}
@@ -127,3 +128,29 @@ goodConfigs l = leb (length l) 8 && all isConfig l
 
 unfoldable pub goodPrefixes : List BasicPrefix → Bool
 goodPrefixes l = leb (length l) 16 && all goodPrefix l
+
+-- an identifier's case is the one of its letter
+abbrev pub goodIdentity : Identifier → Bool
+goodIdentity (Basic p) = goodPrefix p
+goodIdentity (SelfAddressing d) = goodSaid d
+
+abbrev pub goodSeal : Seal → Bool
+goodSeal (EventSeal i s d) = goodIdentity i && (goodSn s && goodSaid d)
+goodSeal Digest = true
+goodSeal Root = true
+goodSeal Source = true
+goodSeal Last = true
+goodSeal Back = true
+goodSeal Kind = true
+goodSeal Opaque = true
+
+-- the limits of an event
+abbrev pub goodEvent : Event → Bool
+goodEvent (vcp said issuer toad configs backers) =
+    goodSaid said && (goodIdentifier issuer && (goodToad toad && (goodConfigs configs && goodPrefixes backers)))
+goodEvent (vrt said registry prior sn toad cuts additions) =
+    goodSaid said && (goodSaid registry && (goodSaid prior && (goodSn sn && (goodToad toad && (goodPrefixes cuts && goodPrefixes additions)))))
+goodEvent (iss said credential registry) = goodSaid said && (goodSaid credential && goodSaid registry)
+goodEvent (rev said credential registry prior) = goodSaid said && (goodSaid credential && (goodSaid registry && goodSaid prior))
+goodEvent (bis said credential registry seal) = goodSaid said && (goodSaid credential && (goodSaid registry && goodSeal seal))
+goodEvent (brv said credential prior seal) = goodSaid said && (goodSaid credential && (goodSaid prior && goodSeal seal))

@@ -1,0 +1,220 @@
+-- Attempts: their layout and limits (docs/RULES.md, "Bytes"), and how they are read.
+use Prim.Native.Nat.{ℕ, _^_}
+use mathlib.Core.List.{List, [], _∷_, _++_}
+use mathlib.Core.Bool.{Bool, true, false, cond, _&&_, _||_}
+use lib.Dec.{leb, ltb, eqb}
+use lib.ListN.{length, drop}
+use Rattle.laws.specs.Number.{digits}
+use Rattle.cesr.specs.Numbers.{value, snBytes}
+use Rattle.cesr.specs.Primitives.{matterBytes, eqMatter, eqSaid}
+use Rattle.cesr.specs.declared.number.Sn.{Sn}
+use Rattle.cesr.specs.declared.primitive.Matter.{Matter}
+use Rattle.cesr.specs.declared.primitive.Said.{Said}
+use Rattle.events.specs.Identifiers.{matterOf}
+use Rattle.events.specs.TelEvents.{Event, viewEvent}
+use Rattle.events.specs.declared.seal.Seal.{Seal}
+use Rattle.events.specs.declared.seal.Seal.the-variants.{Digest, Root, Source as SourceSeal, Event as EventSeal, Last, Back, Kind, Opaque}
+use Rattle.codec.specs.declared.cursor.Cursor.{Cursor}
+use Rattle.codec.specs.Readers.{Read, Reader, starting, need, readByte, readByteIf, readQuad, readNumber, readIdentifier, readSaid, mapped, both, after, counted, times, countUpTo, section}
+use Rattle.codec.specs.Events.{readSeal, readEvent}
+use Rattle.codec.specs.Layout.{sectionBytes, all, saidBytes, sealBytes, eventBytes, goodSaid, goodIdentifier, goodSn, goodSeal, goodEvent}
+use Rattle.registry_wire.specs.States.{Registry, viewRegistry, registryBytes, goodRegistry, readRegistry}
+use Rattle.registry_wire.specs.declared.attempt.Source.{Source}
+use Rattle.registry_wire.specs.declared.attempt.Part.{Part}
+use Rattle.registry_wire.specs.declared.attempt.Counted.{Counted}
+use Rattle.registry_wire.specs.declared.attempt.DecodedAttempt.{DecodedAttempt}
+use Rattle.registry_wire.specs.declared.attempt.Attempt.{Attempt}
+
+-- an anchoring event
+pub record Anchor : Type 0 where
+  pub prefix : Matter
+  pub sn : Sn
+  pub said : Said
+  pub seals : List Seal
+
+-- a signature's index, and its verdict: 0 failed, 1 good
+pub record Signature : Type 0 where
+  pub index : ℕ
+  pub verdict : ℕ
+
+-- what the caller knows about the issuer or the backers
+pub data Evidence : Type 0 where
+  missing : Evidence
+  -- the prefix, and the anchoring event or none
+  issuer : Matter → List Anchor → Evidence
+  backer : Evidence
+  backerAt : Registry → Evidence
+
+-- what an attempt's bytes say; source and anchor have at most one element
+pub record Message : Type 0 where
+  pub event : Event
+  pub source : List Source
+  pub anchor : List Anchor
+  pub signatures : List Signature
+  pub evidence : Evidence
+
+abbrev pub sourceBytes : Source → List ℕ
+sourceBytes x = snBytes (x .sn) ++ saidBytes (x .said)
+
+abbrev pub anchorBytes : Anchor → List ℕ
+anchorBytes x = matterBytes (x .prefix) ++ (snBytes (x .sn) ++ (saidBytes (x .said) ++ sectionBytes sealBytes (x .seals)))
+
+abbrev pub signatureBytes : Signature → List ℕ
+signatureBytes x = digits 4 (x .index) ++ (x .verdict ∷ [])
+
+abbrev pub evidenceBytes : Evidence → List ℕ
+evidenceBytes missing = 0 ∷ []
+evidenceBytes (issuer prefix anchor) = 1 ∷ matterBytes prefix ++ sectionBytes anchorBytes anchor
+evidenceBytes backer = 2 ∷ []
+evidenceBytes (backerAt state) = 3 ∷ registryBytes state
+
+-- the whole attempt: the event's kind and six sections, then source, anchoring event, signatures and evidence
+unfoldable pub attemptBytes : Message → List ℕ
+attemptBytes a =
+    eventBytes (a .event)
+    ++ (sectionBytes sourceBytes (a .source)
+    ++ (sectionBytes anchorBytes (a .anchor) ++ (sectionBytes signatureBytes (a .signatures) ++ sectionBytes evidenceBytes (a .evidence ∷ []))))
+
+-- the limits: at most 8 seals, 64 signatures, one source, one anchoring event
+unfoldable pub goodSource : Source → Bool
+goodSource x = goodSn (x .sn) && goodSaid (x .said)
+
+unfoldable pub goodAnchor : Anchor → Bool
+goodAnchor x =
+    goodIdentifier (x .prefix) && (goodSn (x .sn) && (goodSaid (x .said) && (leb (length (x .seals)) 8 && all goodSeal (x .seals))))
+
+unfoldable pub goodAnchors : List Anchor → Bool
+goodAnchors l = leb (length l) 1 && all goodAnchor l
+
+unfoldable pub goodSignature : Signature → Bool
+goodSignature x = ltb (x .index) (2 ^ 32) && leb (x .verdict) 1
+
+abbrev pub goodEvidence : Evidence → Bool
+goodEvidence missing = true
+goodEvidence (issuer prefix anchor) = goodIdentifier prefix && goodAnchors anchor
+goodEvidence backer = true
+goodEvidence (backerAt state) = goodRegistry state
+
+unfoldable pub goodMessage : Message → Bool
+goodMessage a =
+    goodEvent (a .event)
+    && ((leb (length (a .source)) 1 && all goodSource (a .source))
+    && (goodAnchors (a .anchor) && ((leb (length (a .signatures)) 64 && all goodSignature (a .signatures)) && goodEvidence (a .evidence))))
+
+-- how the parts are read
+abbrev pub sourceOf : Sn × Said → Source
+sourceOf t = record { sn = t .0; said = t .1 }
+
+unfoldable pub readSource : Reader Source
+readSource s c = mapped sourceOf (both readNumber readSaid) s c
+
+unfoldable pub readSeals : Reader (List Seal)
+readSeals s c = section 8 readSeal s c
+
+abbrev pub anchorOf : Matter × (Sn × (Said × List Seal)) → Anchor
+anchorOf t = record { prefix = t .0; sn = t .1 .0; said = t .1 .1 .0; seals = t .1 .1 .1 }
+
+unfoldable pub readAnchor : Reader Anchor
+readAnchor s c = mapped anchorOf (both readIdentifier (both readNumber (both readSaid readSeals))) s c
+
+unfoldable pub readAnchors : Reader (List Anchor)
+readAnchors s c = section 1 readAnchor s c
+
+abbrev pub signatureOf : ℕ × ℕ → Signature
+signatureOf t = record { index = t .0; verdict = t .1 }
+
+unfoldable pub readSignature : Reader Signature
+readSignature s c = mapped signatureOf (both readQuad (readByteIf (λ v. leb v 1))) s c
+
+abbrev pub issuerOf : Matter × List Anchor → Evidence
+issuerOf t = issuer (t .0) (t .1)
+
+unfoldable pub readIssuer : Reader Evidence
+readIssuer s c = mapped issuerOf (both readIdentifier readAnchors) s c
+
+unfoldable pub readBackerAt : Reader Evidence
+readBackerAt s c = mapped backerAt readRegistry s c
+
+unfoldable pub readEvidence : Reader Evidence
+readEvidence s c =
+    cond (eqb (readByte s c .value) 1) (readIssuer s (readByte s c .next))
+    (cond (eqb (readByte s c .value) 3) (readBackerAt s (readByte s c .next))
+    (record { value = cond (eqb (readByte s c .value) 2) backer missing; next = need (readByte s c .next) (eqb (readByte s c .value) 0 || eqb (readByte s c .value) 2) }))
+
+abbrev pub messageOf : Event × (List Source × (List Anchor × (List Signature × Evidence))) → Message
+messageOf t = record { event = t .0; source = t .1 .0; anchor = t .1 .1 .0; signatures = t .1 .1 .1 .0; evidence = t .1 .1 .1 .1 }
+
+unfoldable pub readMessage : Reader Message
+readMessage s c =
+    mapped messageOf (both readEvent (both (section 1 readSource) (both readAnchors (both (section 64 readSignature) (after 1 readEvidence))))) s c
+
+-- the answer of the decoder
+pub data Decoded : Type 0 where
+  malformed : Decoded
+  decoded : Message → Decoded
+
+-- an attempt's bytes, with nothing behind section 10
+unfoldable pub decodeOf : List ℕ → Decoded
+decodeOf s =
+    cond (readMessage s starting .next .ok && eqb (readMessage s starting .next .at) (length s)) (decoded (readMessage s starting .value)) malformed
+
+-- what the code's struct stands for, over the bytes that it was read from
+abbrev pub placed : ℕ → Cursor
+placed at = record { ok = true; at = at }
+
+unfoldable pub anchorsIn : List ℕ → Part → List Anchor
+anchorsIn s p = cond (eqb (p .from) (p .to)) [] (readAnchor s (placed (p .from)) .value ∷ [])
+
+unfoldable pub signaturesIn : List ℕ → Counted → List Signature
+signaturesIn s p = times (p .count) readSignature s (placed (p .from)) .value
+
+unfoldable pub sourcesIn : Attempt → List Source
+sourcesIn a = cond (eqb (a .sources) 0) [] (a .source ∷ [])
+
+unfoldable pub evidenceIn : List ℕ → Attempt → Evidence
+evidenceIn s a =
+    cond (eqb (a .evidence) 1) (issuer (a .issuer) (anchorsIn s (a .carried)))
+    (cond (eqb (a .evidence) 3) (backerAt (viewRegistry (a .management)))
+    (cond (eqb (a .evidence) 2) backer missing))
+
+abbrev pub viewAttempt : List ℕ → Attempt → Message
+viewAttempt s a =
+    record
+    { event = viewEvent (a .event); source = sourcesIn a; anchor = anchorsIn s (a .anchor); signatures = signaturesIn s (a .signatures); evidence = evidenceIn s a }
+
+abbrev pub viewDecoded : List ℕ → DecodedAttempt → Decoded
+viewDecoded s r = cond (r .ok) (decoded (viewAttempt s (r .attempt))) malformed
+
+-- the seals of the anchoring event that is used: the evidence's where it carries one, else the message's
+unfoldable pub chosen : List ℕ → List ℕ → List ℕ
+chosen evidence message = cond (eqb (length evidence) 0) message evidence
+
+-- what stands behind the prefix, sn and said of an anchoring event
+unfoldable pub sealSection : List ℕ → List ℕ
+sealSection event = drop 82 event
+
+unfoldable pub chosenSeals : List ℕ → List ℕ → List ℕ
+chosenSeals evidence message = sealSection (chosen evidence message)
+
+-- whether a seal is the event seal with this i, s and d
+abbrev pub sealsEvent : Seal → Matter → Sn → Said → Bool
+sealsEvent Digest i s d = false
+sealsEvent Root i s d = false
+sealsEvent SourceSeal i s d = false
+sealsEvent (EventSeal j t e) i s d = eqMatter (matterOf j) i && (eqb (value t) (value s) && eqSaid e d)
+sealsEvent Last i s d = false
+sealsEvent Back i s d = false
+sealsEvent Kind i s d = false
+sealsEvent Opaque i s d = false
+
+-- exactly one seal, and that one the wanted
+abbrev pub onlySeal : List Seal → Matter → Sn → Said → Bool
+onlySeal [] i s d = false
+onlySeal (x ∷ []) i s d = sealsEvent x i s d
+onlySeal (x ∷ (y ∷ l)) i s d = false
+
+-- the same of a seal section in bytes
+unfoldable pub anchorSeals : List ℕ → Matter → Sn → Said → Bool
+anchorSeals b i s d =
+    let r = readSeal b (counted 1 b starting) in
+    (r .next .ok && eqb (r .next .at) (length b)) && sealsEvent (r .value) i s d

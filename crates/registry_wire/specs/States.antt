@@ -1,0 +1,84 @@
+-- States of registries and credentials: their layout and limits, and how they are read (docs/RULES.md, "Bytes").
+use Prim.Native.Nat.{ℕ}
+use mathlib.Core.List.{List, _++_}
+use mathlib.Core.Bool.{Bool, _&&_}
+use lib.Dec.{leb}
+use Rattle.laws.specs.Number.{digits}
+use Rattle.cesr.specs.Numbers.{snBytes}
+use Rattle.cesr.specs.Primitives.{matterBytes, isBasic, isSaid}
+use Rattle.cesr.specs.declared.number.Sn.{Sn}
+use Rattle.cesr.specs.declared.primitive.Matter.{Matter}
+use Rattle.cesr.specs.declared.primitive.Said.{Said}
+use Rattle.cesr.specs.declared.primitive.BasicPrefix.{BasicPrefix}
+use Rattle.events.specs.Configs.{viewConfigs}
+use Rattle.events.specs.Members.{view}
+use Rattle.codec.specs.Readers.{Reader, isIdentifier, readNumber, readQuad, readIdentifier, readSaid, mapped, both}
+use Rattle.codec.specs.Events.{isConfig, readConfigs, readPrefixes}
+use Rattle.codec.specs.Layout.{sectionBytes, all, saidBytes, prefixBytes, byteBytes, goodSaid, goodIdentifier, goodSn, goodToad, goodConfigs, goodPrefixes}
+use Rattle.registry_wire.specs.declared.state.RegistryState.{RegistryState}
+use Rattle.registry_wire.specs.declared.state.CredentialState.{CredentialState}
+
+-- a registry as the rules see it: its config bytes and backers are lists
+pub record Registry : Type 0 where
+  pub id : Said
+  pub issuer : Matter
+  pub sn : Sn
+  pub latest : Said
+  pub toad : ℕ
+  pub configs : List ℕ
+  pub backers : List BasicPrefix
+
+abbrev pub viewRegistry : RegistryState → Registry
+viewRegistry g =
+    record
+    { id = g .id; issuer = g .issuer; sn = g .sn; latest = g .latest; toad = g .toad .0; configs = viewConfigs (g .configs); backers = view (g .backers) }
+
+-- a registry state: id, issuer, sn, latest, four-byte toad, config section, backer section
+unfoldable pub registryBytes : Registry → List ℕ
+registryBytes g =
+    saidBytes (g .id)
+    ++ (matterBytes (g .issuer)
+    ++ (snBytes (g .sn)
+    ++ (saidBytes (g .latest) ++ (digits 4 (g .toad) ++ (sectionBytes byteBytes (g .configs) ++ sectionBytes prefixBytes (g .backers))))))
+
+-- a credential state: registry, credential, sn, head
+unfoldable pub credentialBytes : CredentialState → List ℕ
+credentialBytes w = saidBytes (w .registry) ++ (saidBytes (w .credential) ++ (snBytes (w .sn) ++ saidBytes (w .head)))
+
+-- the limits of a registry state, and of a credential state
+unfoldable pub goodRegistry : Registry → Bool
+goodRegistry g =
+    goodSaid (g .id)
+    && (goodIdentifier (g .issuer)
+    && (goodSn (g .sn) && (goodSaid (g .latest) && (goodToad (g .toad) && (goodConfigs (g .configs) && goodPrefixes (g .backers))))))
+
+unfoldable pub goodCredential : CredentialState → Bool
+goodCredential w = goodSaid (w .registry) && (goodSaid (w .credential) && (goodSn (w .sn) && goodSaid (w .head)))
+
+-- how they are read
+abbrev pub registryOf : Said × (Matter × (Sn × (Said × (ℕ × (List ℕ × List BasicPrefix))))) → Registry
+registryOf t =
+    record
+    { id = t .0; issuer = t .1 .0; sn = t .1 .1 .0; latest = t .1 .1 .1 .0; toad = t .1 .1 .1 .1 .0; configs = t .1 .1 .1 .1 .1 .0; backers = t .1 .1 .1 .1 .1 .1 }
+
+unfoldable pub readRegistry : Reader Registry
+readRegistry s c =
+    mapped registryOf (both readSaid (both readIdentifier (both readNumber (both readSaid (both readQuad (both readConfigs readPrefixes)))))) s c
+
+abbrev pub credentialOf : Said × (Said × (Sn × Said)) → CredentialState
+credentialOf t = record { registry = t .0; credential = t .1 .0; sn = t .1 .1 .0; head = t .1 .1 .1 }
+
+unfoldable pub readCredential : Reader CredentialState
+readCredential s c = mapped credentialOf (both readSaid (both readSaid (both readNumber readSaid))) s c
+
+-- what a state that is handed in as a value is held to: its counts, its letters, its config bytes
+unfoldable pub wellRegistry : RegistryState → Bool
+wellRegistry g =
+    leb (g .configs .count) 8
+    && (leb (g .backers .count) 16
+    && (isSaid (g .id .0)
+    && (isIdentifier (g .issuer)
+    && (isSaid (g .latest .0) && (all isConfig (viewConfigs (g .configs)) && all (λ p. isBasic (p .0)) (view (g .backers)))))))
+
+unfoldable pub wellCredential : CredentialState → Bool
+wellCredential w = isSaid (w .registry .0) && (isSaid (w .credential .0) && isSaid (w .head .0))
