@@ -59,6 +59,9 @@ codes-like p bytes bytes' good good' e g k =
           k .complete s c x o (rw (← q) at st) w ∙ rw q;
     }
 
+pub mapped-is : {A B : Type 0} (f : A → B) (p : Reader A) (s : List ℕ) (c d : Cursor) (x : A) → p s c ≡ record { value = x; next = d } → mapped f p s c ≡ record { value = f x; next = d }
+mapped-is f p s c d x e = rw e
+
 -- a value under another form: f and g undo each other within the limits
 pub codes-map : {A B : Type 0} (p : Reader A) (bytes : A → List ℕ) (good : A → Bool) (f : A → B) (g : B → A) (good' : B → Bool) → ((x : A) → good x ≡ true → (g (f x) ≡ x) × (good' (f x) ≡ true)) → ((y : B) → good' y ≡ true → (f (g y) ≡ y) × (good (g y) ≡ true)) → Codes p bytes good → Codes (mapped f p) (λ y. bytes (g y)) good'
 codes-map p bytes good f g good' to back k =

@@ -1,3 +1,4 @@
 pub mod Stands
 pub mod Codes
 pub mod CodesList
+pub mod CodesSeal
