@@ -63,8 +63,8 @@ pub mapped-is : {A B : Type 0} (f : A → B) (p : Reader A) (s : List ℕ) (c d 
 mapped-is f p s c d x e = rw e
 
 -- a value under another form: f and g undo each other within the limits
-pub codes-map : {A B : Type 0} (p : Reader A) (bytes : A → List ℕ) (good : A → Bool) (f : A → B) (g : B → A) (good' : B → Bool) → ((x : A) → good x ≡ true → (g (f x) ≡ x) × (good' (f x) ≡ true)) → ((y : B) → good' y ≡ true → (f (g y) ≡ y) × (good (g y) ≡ true)) → Codes p bytes good → Codes (mapped f p) (λ y. bytes (g y)) good'
-codes-map p bytes good f g good' to back k =
+pub codes-map : {A B : Type 0} {p : Reader A} {bytes : A → List ℕ} {good : A → Bool} (f : A → B) (g : B → A) (good' : B → Bool) → ((x : A) → good x ≡ true → (g (f x) ≡ x) × (good' (f x) ≡ true)) → ((y : B) → good' y ≡ true → (f (g y) ≡ y) × (good (g y) ≡ true)) → Codes p bytes good → Codes (mapped f p) (λ y. bytes (g y)) good'
+codes-map {p} {bytes} {good} f g good' to back k =
     record {
       sound = λ s c b h.
           let t = k .sound s c b h in
@@ -77,8 +77,8 @@ codes-map p bytes good f g good' to back k =
     }
 
 -- one behind the other
-pub codes-both : {A B : Type 0} (p : Reader A) (q : Reader B) (ba : A → List ℕ) (bb : B → List ℕ) (ga : A → Bool) (gb : B → Bool) → Codes p ba ga → Codes q bb gb → Codes (both p q) (λ t. ba (t .0) ++ bb (t .1)) (λ t. ga (t .0) && gb (t .1))
-codes-both p q ba bb ga gb j k =
+pub codes-both : {A B : Type 0} {p : Reader A} {q : Reader B} {ba : A → List ℕ} {bb : B → List ℕ} {ga : A → Bool} {gb : B → Bool} → Codes p ba ga → Codes q bb gb → Codes (both p q) (λ t. ba (t .0) ++ bb (t .1)) (λ t. ga (t .0) && gb (t .1))
+codes-both {p} {q} {ba} {bb} {ga} {gb} j k =
     record {
       sound = λ s c b h.
           let t2 = k .sound s (p s c .next) b h in
@@ -150,7 +150,7 @@ codes-quad = codes-number 4 (lit< tt)
 pub codes-sn : Codes readNumber snBytes goodSn
 unfolding readNumber readSn snBytes goodSn
 codes-sn =
-    codes-map (numberReader 16) (digits 16) (λ x. ltb x (256 ^ 16)) snOf value goodSn
+    codes-map snOf value goodSn
     (λ x h. let b = ltb-true x (256 ^ 16) h in (value-words x b, words-good x))
     (λ n h.
     let p = ltb-true (n .hi) (2 ^ 64) (and-left (ltb (n .hi) (2 ^ 64)) (ltb (n .lo) (2 ^ 64)) h) in
@@ -226,11 +226,11 @@ codes-if test =
 
 pub codes-said : Codes readSaid saidBytes goodSaid
 unfolding readSaid goodSaid
-codes-said = codes-map (readIf isSaid) matterBytes (λ m. isSaid m && isMatter m) saidOf (λ d. d .0) goodSaid (λ m h. (refl, h)) (λ d h. (refl, h)) (codes-if isSaid)
+codes-said = codes-map saidOf (λ d. d .0) goodSaid (λ m h. (refl, h)) (λ d h. (refl, h)) (codes-if isSaid)
 
 pub codes-prefix : Codes readPrefix prefixBytes goodPrefix
 unfolding readPrefix goodPrefix
-codes-prefix = codes-map (readIf isBasic) matterBytes (λ m. isBasic m && isMatter m) prefixOf (λ p. p .0) goodPrefix (λ m h. (refl, h)) (λ p h. (refl, h)) (codes-if isBasic)
+codes-prefix = codes-map prefixOf (λ p. p .0) goodPrefix (λ m h. (refl, h)) (λ p h. (refl, h)) (codes-if isBasic)
 
 pub codes-identifier : Codes readIdentifier matterBytes goodIdentifier
 unfolding readIdentifier goodIdentifier
@@ -257,8 +257,8 @@ count-complete n s c l o st =
     let e = codes-byte .complete s c n o st (lt-ltb n 256 l) in
     rw e (stays (placed (c .at + 1)) (eqb n n) (eq-eqb n n refl))
 
-pub codes-after : {A : Type 0} (n : ℕ) (p : Reader A) (bytes : A → List ℕ) (good : A → Bool) → n < 256 → Codes p bytes good → Codes (after n p) (λ x. n ∷ bytes x) good
-codes-after n p bytes good l k =
+pub codes-after : {A : Type 0} {p : Reader A} {bytes : A → List ℕ} {good : A → Bool} (n : ℕ) → n < 256 → Codes p bytes good → Codes (after n p) (λ x. n ∷ bytes x) good
+codes-after {p} {bytes} {good} n l k =
     record {
       sound = λ s c b h.
           let t = k .sound s (counted n s c) b h in
@@ -281,8 +281,8 @@ codes-after n p bytes good l k =
     shift : (a m : ℕ) → a + 1 + m ≡ a + suc m
     shift a m = omega arith
 
-pub codes-ended : {A : Type 0} (n : ℕ) (p : Reader A) (bytes : A → List ℕ) (good : A → Bool) → n < 256 → Codes p bytes good → Codes (ended p n) (λ x. bytes x ++ (n ∷ [])) good
-codes-ended n p bytes good l k =
+pub codes-ended : {A : Type 0} {p : Reader A} {bytes : A → List ℕ} {good : A → Bool} (n : ℕ) → n < 256 → Codes p bytes good → Codes (ended p n) (λ x. bytes x ++ (n ∷ [])) good
+codes-ended {p} {bytes} {good} n l k =
     record {
       sound = λ s c b h.
           let x = p s c .value in

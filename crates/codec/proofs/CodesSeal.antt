@@ -130,9 +130,7 @@ abbrev goodParts : Matter × (Sn × Said) → Bool
 goodParts t = goodIdentifier (t .0) && (goodSn (t .1 .0) && goodSaid (t .1 .1))
 
 codes-parts : Codes (both readIdentifier (both readNumber readSaid)) sealParts goodParts
-codes-parts =
-    codes-both readIdentifier (both readNumber readSaid) matterBytes (λ t. snBytes (t .0) ++ saidBytes (t .1)) goodIdentifier (λ t. goodSn (t .0) && goodSaid (t .1)) codes-identifier
-    (codes-both readNumber readSaid snBytes saidBytes goodSn goodSaid codes-sn codes-said)
+codes-parts = codes-both codes-identifier (codes-both codes-sn codes-said)
 
 -- the bytes of a seal that is no event seal are its kind
 other-bytes : (k : ℕ) → (leb 1 k && leb k 8) ≡ true → eqb k 4 ≡ false → (sealBytes (sealOf k) ≡ k ∷ []) × (goodSeal (sealOf k) ≡ true)

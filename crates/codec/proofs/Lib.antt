@@ -2,3 +2,4 @@ pub mod Stands
 pub mod Codes
 pub mod CodesList
 pub mod CodesSeal
+pub mod CodesEvent
