@@ -1,3 +1,4 @@
+pub mod Loops
 pub mod Stands
 pub mod Codes
 pub mod CodesList
