@@ -236,6 +236,30 @@ pub codes-identifier : Codes readIdentifier matterBytes goodIdentifier
 unfolding readIdentifier goodIdentifier
 codes-identifier = codes-if isIdentifier
 
+-- one byte more in front: the place behind it
+pub shift : (a m : ℕ) → a + 1 + m ≡ a + suc m
+shift a m = omega arith
+
+-- a byte n, then what a reader tells: together they tell of a layout that begins with n
+pub led : {A : Type 0} {tail : A → List ℕ} {good : A → Bool} (bytes : A → List ℕ) (n : ℕ) (s : List ℕ) (c : Cursor) (r : Read A) → Bytes s → readByte s c .value ≡ n → bytes (r .value) ≡ n ∷ tail (r .value) → Told tail good s (readByte s c .next) r → Told bytes good s c r
+led {tail} bytes n s c r b e f t =
+    let w = codes-byte .sound s c b (t .ok) in
+    let x = r .value in
+    let at : readByte s c .next .at ≡ c .at + 1 = ap (λ (d : Cursor). d .at) (w .next) in
+    let st1 : Stands s (c .at) (n ∷ []) = subst (λ (k : ℕ). Stands s (c .at) (k ∷ [])) e (w .stands) in
+    let st2 : Stands s (c .at + 1) (tail x) = subst (λ (m : ℕ). Stands s m (tail x)) at (t .stands) in
+    record {
+      ok = w .ok;
+      stands = subst (λ (l : List ℕ). Stands s (c .at) l) (sym f) (stands-join s (c .at) (n ∷ []) (tail x) st1 st2);
+      next = t .next ∙ ap (λ (m : ℕ). placed (m + length (tail x))) at ∙ ap placed (shift (c .at) (length (tail x)) ∙ ap (λ (l : List ℕ). c .at + length l) (sym f));
+      limits = t .limits;
+    }
+
+-- and the other way: the byte is read, and what stands behind it stands there
+pub leads : (n : ℕ) (tail : List ℕ) (s : List ℕ) (c : Cursor) → n < 256 → c .ok ≡ true → Stands s (c .at) (n ∷ tail) → (readByte s c ≡ record { value = n; next = placed (c .at + 1) }) × Stands s (c .at + 1) tail
+leads n tail s c l o st =
+    (codes-byte .complete s c n o (stands-first s (c .at) (n ∷ []) tail st) (lt-ltb n 256 l), stands-rest s (c .at) (n ∷ []) tail st)
+
 -- a count that has to be n
 pub record Counted (n : ℕ) (s : List ℕ) (c : Cursor) : Type 0 where
   pub ok : c .ok ≡ true
@@ -277,9 +301,6 @@ codes-after {p} {bytes} {good} n l k =
           let e2 = k .complete s (placed (c .at + 1)) x refl (stands-rest s (c .at) (n ∷ []) (bytes x) st) g in
           ap (p s) e1 ∙ e2 ∙ ap (λ (m : ℕ). record { value = x; next = placed m }) (shift (c .at) (length (bytes x)));
     }
-  where
-    shift : (a m : ℕ) → a + 1 + m ≡ a + suc m
-    shift a m = omega arith
 
 pub codes-ended : {A : Type 0} {p : Reader A} {bytes : A → List ℕ} {good : A → Bool} (n : ℕ) → n < 256 → Codes p bytes good → Codes (ended p n) (λ x. bytes x ++ (n ∷ [])) good
 codes-ended {p} {bytes} {good} n l k =

@@ -23,7 +23,7 @@ use Rattle.codec.specs.Layout.{joined, sectionBytes, byteBytes, saidByte
 use Rattle.codec.specs.Readers.{Read, Reader, need, mapped, both, after, ended, readByte, readNumber, readSaid, readIdentifier}
 use Rattle.codec.specs.Events.{readToad, readConfigs, readPrefixes, readSeal, vcpOf, vrtOf, issOf, revOf, bisOf, brvOf, readVcp, readVrt, readIss, readRev, readBis, readBrv, readKind, readEvent}
 use Rattle.codec.proofs.Stands.{placed, Stands, stands-join, stands-first, stands-rest, Passed, passed, stays}
-use Rattle.codec.proofs.Codes.{Told, Codes, mapped-is, codes-both, codes-after, codes-ended, codes-byte, codes-sn, codes-said, codes-identifier}
+use Rattle.codec.proofs.Codes.{Told, Codes, led, leads, shift, mapped-is, codes-both, codes-after, codes-ended, codes-byte, codes-sn, codes-said, codes-identifier}
 use Rattle.codec.proofs.CodesSeal.{codes-toad, codes-configs, codes-prefixes, codes-seal}
 
 -- what stands behind the kind byte
@@ -171,33 +171,19 @@ kind-small (rev a c r p) = lit< tt
 kind-small (bis a c r x) = lit< tt
 kind-small (brv a c p x) = lit< tt
 
-event-shift : (a m : ℕ) → a + 1 + m ≡ a + suc m
-event-shift a m = omega arith
-
 event-sound : (s : List ℕ) (c : Cursor) → Bytes s → readEvent s c .next .ok ≡ true → Told eventBytes goodEvent s c (readEvent s c)
 unfolding readEvent eventBytes sixSections
 event-sound s c b h =
     let r = readByte s c in
     let w = kinds (r .value) s (r .next) b h in
-    let t2 = w .0 in
-    let t1 = codes-byte .sound s c b (t2 .ok) in
-    let e = readKind (r .value) s (r .next) .value in
-    let at : r .next .at ≡ c .at + 1 = ap (λ (d : Cursor). d .at) (t1 .next) in
-    let st1 : Stands s (c .at) (kindByte e ∷ []) = subst (λ (k : ℕ). Stands s (c .at) (k ∷ [])) (sym (w .1)) (t1 .stands) in
-    let st2 : Stands s (c .at + 1) (tailBytes e) = subst (λ (m : ℕ). Stands s m (tailBytes e)) at (t2 .stands) in
-    record {
-      ok = t1 .ok;
-      stands = stands-join s (c .at) (kindByte e ∷ []) (tailBytes e) st1 st2;
-      next = t2 .next ∙ ap (λ (m : ℕ). placed (m + length (tailBytes e))) at ∙ ap placed (event-shift (c .at) (length (tailBytes e)));
-      limits = t2 .limits;
-    }
+    led eventBytes (r .value) s c (readEvent s c) b refl (ap (λ (k : ℕ). k ∷ tailBytes (readEvent s c .value)) (w .1)) (w .0)
 
 event-complete : (s : List ℕ) (c : Cursor) (e : Event) → c .ok ≡ true → Stands s (c .at) (eventBytes e) → goodEvent e ≡ true → readEvent s c ≡ record { value = e; next = placed (c .at + length (eventBytes e)) }
 unfolding readEvent eventBytes sixSections
 event-complete s c e o st l =
-    let e1 = codes-byte .complete s c (kindByte e) o (stands-first s (c .at) (kindByte e ∷ []) (tailBytes e) st) (lt-ltb (kindByte e) 256 (kind-small e)) in
-    let e2 = kind-is e s (placed (c .at + 1)) refl (stands-rest s (c .at) (kindByte e ∷ []) (tailBytes e) st) l in
-    rw e1 (e2 ∙ ap (λ (m : ℕ). record { value = e; next = placed m }) (event-shift (c .at) (length (tailBytes e))))
+    let w = leads (kindByte e) (tailBytes e) s c (kind-small e) o st in
+    let k = kind-is e s (placed (c .at + 1)) refl (w .1) l in
+    rw (w .0) (k ∙ ap (λ (m : ℕ). record { value = e; next = placed m }) (shift (c .at) (length (tailBytes e))))
 
 pub codes-event : Codes readEvent eventBytes goodEvent
 codes-event = record { sound = event-sound; complete = event-complete }

@@ -16,7 +16,7 @@ use Rattle.codec.specs.declared.cursor.Cursor.{Cursor}
 use Rattle.codec.specs.Layout.{joined, sectionBytes, all, byteBytes}
 use Rattle.codec.specs.Readers.{Read, Reader, stopped, need, readByte, times, countUpTo, section}
 use Rattle.codec.proofs.Stands.{placed, Stands, stands-join, stands-first, stands-rest, Passed, passed, stays}
-use Rattle.codec.proofs.Codes.{Told, Codes, and-true, codes-byte, isByte}
+use Rattle.codec.proofs.Codes.{Told, Codes, and-true, shift, codes-byte, isByte}
 
 module _ {A : Type 0} (f : A → List ℕ) where
   pub joined-append : (l m : List A) → joined f (l ++ m) ≡ joined f l ++ joined f m
@@ -121,9 +121,6 @@ module _ {A : Type 0} (p : Reader A) (bytes : A → List ℕ) (good : A → Bool
   abbrev within : ℕ → List A → Bool
   within limit l = leb (length l) limit && all good l
 
-  section-shift : (a m : ℕ) → a + 1 + m ≡ a + suc m
-  section-shift a m = omega arith
-
   section-sound : (limit : ℕ) (s : List ℕ) (c : Cursor) → Bytes s → section limit p s c .next .ok ≡ true → Told (sectionBytes bytes) (within limit) s c (section limit p s c)
   unfolding section countUpTo sectionBytes
   section-sound limit s c b h =
@@ -142,7 +139,7 @@ module _ {A : Type 0} (p : Reader A) (bytes : A → List ℕ) (good : A → Bool
       record {
         ok = t1 .ok;
         stands = stands-join s (c .at) (length l ∷ []) (joined bytes l) st1 st2;
-        next = t2 .next ∙ ap (λ (m : ℕ). placed (m + length (joined bytes l))) at ∙ ap placed (section-shift (c .at) (length (joined bytes l)));
+        next = t2 .next ∙ ap (λ (m : ℕ). placed (m + length (joined bytes l))) at ∙ ap placed (shift (c .at) (length (joined bytes l)));
         limits =
             and-true (leb (length l) limit) (all good l)
             (ap (λ (x : ℕ). leb x limit) count ∙ w .test)
@@ -156,7 +153,7 @@ module _ {A : Type 0} (p : Reader A) (bytes : A → List ℕ) (good : A → Bool
       let byte : isByte (length l) ≡ true = lt-ltb (length l) 256 (omega (arith, leb-true (length l) limit fits)) in
       let e1 = codes-byte .complete s c (length l) o (stands-first s (c .at) (length l ∷ []) (joined bytes l) st) byte in
       let e2 = times-complete (length l) s (placed (c .at + 1)) l refl (stands-rest s (c .at) (length l ∷ []) (joined bytes l) st) (and-true (eqb (length l) (length l)) (all good l) (eq-eqb (length l) (length l) refl) (and-right (leb (length l) limit) (all good l) g)) in
-      rw (e1, stays (placed (c .at + 1)) (leb (length l) limit) fits, e2, section-shift)
+      rw (e1, stays (placed (c .at + 1)) (leb (length l) limit) fits, e2, shift)
 
   pub codes-section : (limit : ℕ) → limit < 256 → Codes (section limit p) (sectionBytes bytes) (within limit)
   codes-section limit small = record { sound = section-sound limit; complete = section-complete limit small }

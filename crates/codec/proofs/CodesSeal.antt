@@ -27,7 +27,7 @@ use Rattle.codec.specs.Layout.{byteBytes, saidBytes, prefixBytes, sectio
 use Rattle.codec.specs.Readers.{Read, Reader, need, mapped, both, readByte, readByteIf, readNumber, readSaid, readIdentifier, isIdentifier, section, readPrefix}
 use Rattle.codec.specs.Events.{isConfig, readConfig, readToad, readConfigs, readPrefixes, sealOf, eventSeal, readEventSeal, readOtherSeal, readSeal}
 use Rattle.codec.proofs.Stands.{placed, Stands, stands-join, stands-first, stands-rest, Passed, passed, stays}
-use Rattle.codec.proofs.Codes.{Told, Codes, and-true, mapped-is, codes-like, codes-byte, codes-byte-if, isByte, codes-sn, codes-said, codes-prefix, codes-identifier, codes-both}
+use Rattle.codec.proofs.Codes.{Told, Codes, and-true, led, leads, shift, mapped-is, codes-like, codes-byte, codes-byte-if, isByte, codes-sn, codes-said, codes-prefix, codes-identifier, codes-both}
 use Rattle.codec.proofs.CodesList.{codes-section}
 
 -- a test that only bytes pass
@@ -146,30 +146,36 @@ other-bytes (suc (suc (suc (suc (suc (suc (suc zero))))))) h e = (refl, refl)
 other-bytes (suc (suc (suc (suc (suc (suc (suc (suc zero)))))))) h e = (refl, refl)
 other-bytes (suc (suc (suc (suc (suc (suc (suc (suc (suc k))))))))) h e = absurd (omega (arith, leb-true (suc (suc (suc (suc (suc (suc (suc (suc (suc k))))))))) 8 (and-right (leb 1 (suc (suc (suc (suc (suc (suc (suc (suc (suc k)))))))))) (leb (suc (suc (suc (suc (suc (suc (suc (suc (suc k))))))))) 8) h)))
 
-event-bytes : (x : Matter × (Sn × Said)) → sealBytes (eventSeal x) ≡ 4 ∷ sealParts x
-event-bytes x = rw (matter-identifier (x .0))
+-- what stands behind the kind byte
+abbrev sealTail : Seal → List ℕ
+sealTail (EventSeal i n d) = matterBytes (matterOf i) ++ (snBytes n ++ saidBytes d)
+sealTail Digest = []
+sealTail Root = []
+sealTail Source = []
+sealTail Last = []
+sealTail Back = []
+sealTail Kind = []
+sealTail Opaque = []
 
-seal-shift : (a m : ℕ) → a + 1 + m ≡ a + suc m
-seal-shift a m = omega arith
+-- what the parts tell, told of the seal behind its kind
+parts-told : (s : List ℕ) (d : Cursor) → Bytes s → readEventSeal s d .next .ok ≡ true → Told sealTail goodSeal s d (readEventSeal s d)
+unfolding readEventSeal
+parts-told s d b h =
+    let t = codes-parts .sound s d b h in
+    let x = both readIdentifier (both readNumber readSaid) s d .value in
+    let g1 = and-left (goodIdentifier (x .0)) (goodSn (x .1 .0) && goodSaid (x .1 .1)) (t .limits) in
+    let g2 = and-right (goodIdentifier (x .0)) (goodSn (x .1 .0) && goodSaid (x .1 .1)) (t .limits) in
+    let e : sealParts x ≡ sealTail (eventSeal x) = rw (matter-identifier (x .0)) in
+    record {
+      ok = t .ok;
+      stands = subst (λ (l : List ℕ). Stands s (d .at) l) e (t .stands);
+      next = t .next ∙ ap (λ (l : List ℕ). placed (d .at + length l)) e;
+      limits = and-true (goodIdentity (identifierOf (x .0))) (goodSn (x .1 .0) && goodSaid (x .1 .1)) (identity-good (x .0) g1) g2;
+    }
 
 event-sound : (s : List ℕ) (c : Cursor) → Bytes s → eqb (readByte s c .value) 4 ≡ true → readEventSeal s (readByte s c .next) .next .ok ≡ true → Told sealBytes goodSeal s c (readEventSeal s (readByte s c .next))
 unfolding readEventSeal
-event-sound s c b e h =
-    let r = readByte s c in
-    let x = both readIdentifier (both readNumber readSaid) s (r .next) .value in
-    let t2 = codes-parts .sound s (r .next) b h in
-    let t1 = codes-byte .sound s c b (t2 .ok) in
-    let at : r .next .at ≡ c .at + 1 = ap (λ (d : Cursor). d .at) (t1 .next) in
-    let st1 : Stands s (c .at) (4 ∷ []) = subst (λ (k : ℕ). Stands s (c .at) (k ∷ [])) (eqb-true (r .value) 4 e) (t1 .stands) in
-    let st2 : Stands s (c .at + 1) (sealParts x) = subst (λ (m : ℕ). Stands s m (sealParts x)) at (t2 .stands) in
-    let g1 = and-left (goodIdentifier (x .0)) (goodSn (x .1 .0) && goodSaid (x .1 .1)) (t2 .limits) in
-    let g2 = and-right (goodIdentifier (x .0)) (goodSn (x .1 .0) && goodSaid (x .1 .1)) (t2 .limits) in
-    record {
-      ok = t1 .ok;
-      stands = subst (λ (l : List ℕ). Stands s (c .at) l) (sym (event-bytes x)) (stands-join s (c .at) (4 ∷ []) (sealParts x) st1 st2);
-      next = t2 .next ∙ ap (λ (m : ℕ). placed (m + length (sealParts x))) at ∙ ap placed (seal-shift (c .at) (length (sealParts x)) ∙ ap (λ (l : List ℕ). c .at + length l) (sym (event-bytes x)));
-      limits = and-true (goodIdentity (identifierOf (x .0))) (goodSn (x .1 .0) && goodSaid (x .1 .1)) (identity-good (x .0) g1) g2;
-    }
+event-sound s c b e h = led sealBytes 4 s c (readEventSeal s (readByte s c .next)) b (eqb-true (readByte s c .value) 4 e) refl (parts-told s (readByte s c .next) b h)
 
 abbrev isKind : ℕ → Bool
 isKind k = leb 1 k && leb k 8
@@ -208,9 +214,11 @@ unfolding readSeal readEventSeal
 event-complete i n d s c o st g =
     let x : Matter × (Sn × Said) = (matterOf i, (n, d)) in
     let back = identity-back i (and-left (goodIdentity i) (goodSn n && goodSaid d) g) in
-    let e1 = codes-byte .complete s c 4 o (stands-first s (c .at) (4 ∷ []) (sealParts x) st) (lt-ltb 4 256 (lit< tt)) in
-    let e2 = codes-parts .complete s (placed (c .at + 1)) x refl (stands-rest s (c .at) (4 ∷ []) (sealParts x) st) (and-true (goodIdentifier (matterOf i)) (goodSn n && goodSaid d) (back .1) (and-right (goodIdentity i) (goodSn n && goodSaid d) g)) in
-    rw e1 (mapped-is eventSeal (both readIdentifier (both readNumber readSaid)) s (placed (c .at + 1)) (placed (c .at + 1 + length (sealParts x))) x e2 ∙ rw (back .0, seal-shift))
+    let w = leads 4 (sealParts x) s c (lit< tt) o st in
+    let e2 = codes-parts .complete s (placed (c .at + 1)) x refl (w .1) (and-true (goodIdentifier (matterOf i)) (goodSn n && goodSaid d) (back .1) (and-right (goodIdentity i) (goodSn n && goodSaid d) g)) in
+    rw (w .0)
+    (mapped-is eventSeal (both readIdentifier (both readNumber readSaid)) s (placed (c .at + 1)) (placed (c .at + 1 + length (sealParts x))) x e2
+    ∙ rw (back .0, shift))
 
 seal-complete : (s : List ℕ) (c : Cursor) (x : Seal) → c .ok ≡ true → Stands s (c .at) (sealBytes x) → goodSeal x ≡ true → readSeal s c ≡ record { value = x; next = placed (c .at + length (sealBytes x)) }
 unfolding sealOf

@@ -1,0 +1,2 @@
+pub mod CodesState
+pub mod CodesAttempt
