@@ -4,3 +4,4 @@ pub mod Codes
 pub mod CodesList
 pub mod CodesSeal
 pub mod CodesEvent
+pub mod CodesRound
