@@ -12,11 +12,13 @@ use Rattle.cesr.specs.declared.primitive.Said.{Said}
 use Rattle.cesr.specs.declared.primitive.BasicPrefix.{BasicPrefix}
 use Rattle.events.specs.Configs.{viewConfigs}
 use Rattle.events.specs.Members.{view}
-use Rattle.codec.specs.Readers.{Reader, isIdentifier, readNumber, readQuad, readIdentifier, readSaid, mapped, both}
+use Rattle.codec.specs.Readers.{Read, Reader, isIdentifier, readNumber, readQuad, readIdentifier, readSaid, mapped, both}
 use Rattle.codec.specs.Events.{isConfig, readConfigs, readPrefixes}
 use Rattle.codec.specs.Layout.{sectionBytes, all, saidBytes, prefixBytes, byteBytes, goodSaid, goodIdentifier, goodSn, goodToad, goodConfigs, goodPrefixes}
 use Rattle.registry_wire.specs.declared.state.RegistryState.{RegistryState}
 use Rattle.registry_wire.specs.declared.state.CredentialState.{CredentialState}
+use Rattle.registry_wire.specs.declared.state.RegistryRead.{RegistryRead}
+use Rattle.registry_wire.specs.declared.state.CredentialRead.{CredentialRead}
 
 -- a registry as the rules see it: its config bytes and backers are lists
 pub record Registry : Type 0 where
@@ -94,3 +96,10 @@ headBytes a b n d = matterBytes a ++ (matterBytes b ++ (snBytes n ++ matterBytes
 -- what stands behind the head of a registry state
 unfoldable pub restBytes : ℕ → List ℕ → List BasicPrefix → List ℕ
 restBytes toad configs backers = digits 4 toad ++ (sectionBytes byteBytes configs ++ sectionBytes prefixBytes backers)
+
+-- what the structs of the code stand for
+abbrev pub viewRegistryRead : RegistryRead → Read Registry
+viewRegistryRead r = record { value = viewRegistry (r .value); next = r .next }
+
+abbrev pub viewCredentialRead : CredentialRead → Read CredentialState
+viewCredentialRead r = record { value = r .value; next = r .next }

@@ -4,6 +4,9 @@ use cesr::number::has_room;
 use cesr::number::write_u32;
 use cesr::primitive::Matter;
 use cesr::primitive::Said;
+use codec::cursor::Cursor;
+use codec::section::read_configs;
+use codec::section::read_prefixes;
 use events::config::Configs;
 use events::member_set::Members;
 use events::toad::Toad;
@@ -16,7 +19,7 @@ ghost use Rattle.events.specs.Configs.{viewConfigs};
 ghost use Rattle.events.specs.Members.{view};
 ghost use Rattle.codec.specs.Events.{isConfig};
 ghost use Rattle.codec.specs.Layout.{sectionBytes, byteBytes, prefixBytes, all};
-ghost use Rattle.registry_wire.specs.States.{viewRegistry, registryBytes, credentialBytes, headBytes, restBytes, isBacker, wellRegistry, wellCredential};
+ghost use Rattle.registry_wire.specs.States.{viewRegistry, registryBytes, credentialBytes, headBytes, restBytes, readRegistry, readCredential, viewRegistryRead, viewCredentialRead, isBacker, wellRegistry, wellCredential};
 
 pub struct RegistryState {
     pub id: Said,
@@ -36,6 +39,16 @@ pub struct CredentialState {
     pub sn: Sn,
     // The digest of the last event.
     pub head: Said,
+}
+
+pub struct RegistryRead {
+    pub value: RegistryState,
+    pub next: Cursor,
+}
+
+pub struct CredentialRead {
+    pub value: CredentialState,
+    pub next: Cursor,
 }
 
 impl RegistryState {
@@ -67,6 +80,36 @@ impl RegistryState {
         write_rest(out, at + 115, self.toad, self.configs, self.backers);
         true
     }
+
+    pub fn read(c: Cursor, s: &[u8]) -> RegistryRead
+        ensures { λ r. ⌜ viewRegistryRead r ≡ readRegistry (now (s .entry)) c ⌝ }
+    {
+        let id = c.said(s);
+        let issuer = id.next.identifier(s);
+        let sn = issuer.next.sn(s);
+        let latest = sn.next.said(s);
+        let toad = latest.next.quad(s);
+        let configs = read_configs(toad.next, s);
+        let backers = read_prefixes(configs.next, s);
+        let next = backers.next;
+        let id = id.value;
+        let issuer = issuer.value;
+        let sn = sn.value;
+        let latest = latest.value;
+        let toad = Toad::from_wire(toad.value);
+        let configs = configs.value;
+        let backers = backers.value;
+        let value = RegistryState {
+            id,
+            issuer,
+            sn,
+            latest,
+            toad,
+            configs,
+            backers,
+        };
+        RegistryRead { value, next }
+    }
 }
 
 impl CredentialState {
@@ -93,6 +136,27 @@ impl CredentialState {
             self.head.0,
         );
         true
+    }
+
+    pub fn read(c: Cursor, s: &[u8]) -> CredentialRead
+        ensures { λ r. ⌜ viewCredentialRead r ≡ readCredential (now (s .entry)) c ⌝ }
+    {
+        let registry = c.said(s);
+        let credential = registry.next.said(s);
+        let sn = credential.next.sn(s);
+        let head = sn.next.said(s);
+        let next = head.next;
+        let registry = registry.value;
+        let credential = credential.value;
+        let sn = sn.value;
+        let head = head.value;
+        let value = CredentialState {
+            registry,
+            credential,
+            sn,
+            head,
+        };
+        CredentialRead { value, next }
     }
 }
 
