@@ -24,6 +24,7 @@ use Rattle.registry_wire.specs.declared.attempt.Part.{Part}
 use Rattle.registry_wire.specs.declared.attempt.Counted.{Counted}
 use Rattle.registry_wire.specs.declared.attempt.DecodedAttempt.{DecodedAttempt}
 use Rattle.registry_wire.specs.declared.attempt.Attempt.{Attempt}
+use Rattle.registry_wire.specs.declared.signatures.SignatureRead.{SignatureRead}
 
 -- an anchoring event
 pub record Anchor : Type 0 where
@@ -218,3 +219,7 @@ unfoldable pub anchorSeals : List ℕ → Matter → Sn → Said → Bool
 anchorSeals b i s d =
     let r = readSeal b (counted 1 b starting) in
     (r .next .ok && eqb (r .next .at) (length b)) && sealsEvent (r .value) i s d
+
+-- what the structs of the code stand for
+abbrev pub viewSignature : SignatureRead → Read Signature
+viewSignature r = record { value = record { index = r .index; verdict = r .verdict }; next = r .next }
