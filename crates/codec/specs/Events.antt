@@ -8,12 +8,19 @@ use Rattle.cesr.specs.declared.number.Sn.{Sn}
 use Rattle.cesr.specs.declared.primitive.Matter.{Matter}
 use Rattle.cesr.specs.declared.primitive.Said.{Said}
 use Rattle.cesr.specs.declared.primitive.BasicPrefix.{BasicPrefix}
+use Rattle.events.specs.Configs.{viewConfigs}
 use Rattle.events.specs.Identifiers.{identifierOf}
+use Rattle.events.specs.Members.{view}
 use Rattle.events.specs.TelEvents.{Event, viewEvent}
 use Rattle.events.specs.TelEvents.Event.{vcp, vrt, iss, rev, bis, brv}
 use Rattle.events.specs.declared.seal.Seal.{Seal}
 use Rattle.events.specs.declared.seal.Seal.the-variants.{Digest, Root, Source, Event as EventSeal, Last, Back, Kind, Opaque}
 use Rattle.codec.specs.declared.cursor.Cursor.{Cursor}
+use Rattle.codec.specs.declared.section.CountRead.{CountRead}
+use Rattle.codec.specs.declared.section.ConfigsRead.{ConfigsRead}
+use Rattle.codec.specs.declared.section.PrefixesRead.{PrefixesRead}
+use Rattle.codec.specs.declared.section.ToadRead.{ToadRead}
+use Rattle.codec.specs.declared.section.SealRead.{SealRead}
 use Rattle.codec.specs.Readers.{Read, Reader, need, readByte, readByteIf, readNumber, readIdentifier, readSaid, readPrefix, mapped, both, after, ended, section}
 
 -- a config byte is 1 to 6
@@ -114,3 +121,19 @@ readKind k s c =
 
 unfoldable pub readEvent : Reader Event
 readEvent s c = readKind (readByte s c .value) s (readByte s c .next)
+
+-- what the structs of the code stand for
+abbrev pub viewCountRead : CountRead → Read ℕ
+viewCountRead r = record { value = r .value; next = r .next }
+
+abbrev pub viewConfigsRead : ConfigsRead → Read (List ℕ)
+viewConfigsRead r = record { value = viewConfigs (r .value); next = r .next }
+
+abbrev pub viewPrefixesRead : PrefixesRead → Read (List BasicPrefix)
+viewPrefixesRead r = record { value = view (r .value); next = r .next }
+
+abbrev pub viewToadRead : ToadRead → Read ℕ
+viewToadRead r = record { value = r .value .0; next = r .next }
+
+abbrev pub viewSealRead : SealRead → Read Seal
+viewSealRead r = record { value = r .value; next = r .next }

@@ -1,0 +1,49 @@
+-- How a loop reads a section.
+--     count-within    the count is at most the limit
+--     times-next      one element more, and the cursor alone
+--     times-pushed    one element more, pushed to a list that has room for it
+--     configs-room    a list of fewer than 8 config bytes has room for one more
+use Prim.Native.Nat.{ℕ, zero, suc, _+_, _<_, _≤_}
+use mathlib.Core.Path.{_≡_, refl, ap, _∙_}
+use mathlib.Core.Bool.{Bool, true, false, cond}
+use mathlib.Core.List.{List, [], _∷_, _++_}
+use native.Mathlib.Omega.{arith}
+use native.Mathlib.Numerals.{add-one}
+use borrow.Author.Tests.{lt-ltb, leb-true}
+use lib.Dec.{leb}
+use lib.ListN.{length, length-append}
+use Rattle.events.specs.Configs.{hasRoom, pushed}
+use Rattle.codec.specs.declared.cursor.Cursor.{Cursor}
+use Rattle.codec.specs.Readers.{Read, Reader, stopped, need, readByte, times, countUpTo}
+
+pub count-within : (limit : ℕ) (s : List ℕ) (c : Cursor) (r : Read ℕ) → r ≡ countUpTo limit s c → r .value ≤ limit
+unfolding countUpTo need
+count-within limit s c r e = rw e (go (leb (readByte s c .value) limit) refl)
+  where
+    go : (t : Bool) → leb (readByte s c .value) limit ≡ t → cond (cond t (readByte s c .next) stopped .ok) (readByte s c .value) 0 ≤ limit
+    go false f = omega arith
+    go true f = under (readByte s c .next .ok)
+      where
+        under : (t : Bool) → cond t (readByte s c .value) 0 ≤ limit
+        under true = leb-true (readByte s c .value) limit f
+        under false = omega arith
+
+module _ {A : Type 0} (p : Reader A) (s : List ℕ) (c : Cursor) where
+  pub times-next : (n : ℕ) (d : Cursor) (r : Read A) → d ≡ times n p s c .next → r ≡ p s d → r .next ≡ times (n + 1) p s c .next
+  unfolding times
+  times-next n d r e f = rw add-one (ap (λ (q : Read A). q .next) f ∙ ap (λ (x : Cursor). p s x .next) e)
+
+  length-times : (n : ℕ) → length (times n p s c .value) ≡ n
+  unfolding times
+  length-times zero = refl
+  length-times (suc n) = rw (length-append, length-times n) (add-one n)
+
+  pub times-pushed : (k : ℕ) (push : List A → A → List A) → ((l : List A) (x : A) → length l < k → push l x ≡ l ++ (x ∷ [])) → (n : ℕ) (l m : List A) (d : Cursor) (r : Read A) → n < k → record { value = l; next = d } ≡ times n p s c → r ≡ p s d → m ≡ push l (r .value) → record { value = m; next = r .next } ≡ times (n + 1) p s c
+  unfolding times
+  times-pushed k push room n l m d r b e f g =
+      let h : length l ≡ n = ap (λ (q : Read (List A)). length (q .value)) e ∙ length-times n in
+      rw (add-one, ← e, ← f, g, room l (r .value) (omega arith))
+
+pub configs-room : (l : List ℕ) (x : ℕ) → length l < 8 → pushed l x ≡ l ++ (x ∷ [])
+unfolding pushed hasRoom
+configs-room l x b = rw (lt-ltb (length l) 8 b)

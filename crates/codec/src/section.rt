@@ -1,0 +1,183 @@
+// The sections that a layout is made of: a count byte, then that many elements (docs/RULES.md, "Bytes").
+use crate::cursor::ByteRead;
+use crate::cursor::Cursor;
+use cesr::number::Sn;
+use events::config::Configs;
+use events::identifier::Identifier;
+use events::member_set::Members;
+use events::seal::Seal;
+use events::toad::Toad;
+ghost use mathlib.Core.Path.{_≡_};
+ghost use Rattle.codec.specs.Readers.{countUpTo, section, viewByte};
+ghost use Rattle.codec.specs.Events.{readConfig, readConfigs, readPrefixes, readToad, sealOf, readEventSeal, readOtherSeal, readSeal, viewCountRead, viewConfigsRead, viewPrefixesRead, viewToadRead, viewSealRead};
+
+pub struct CountRead {
+    pub value: usize,
+    pub next: Cursor,
+}
+
+pub struct ConfigsRead {
+    pub value: Configs,
+    pub next: Cursor,
+}
+
+pub struct PrefixesRead {
+    pub value: Members,
+    pub next: Cursor,
+}
+
+pub struct ToadRead {
+    pub value: Toad,
+    pub next: Cursor,
+}
+
+pub struct SealRead {
+    pub value: Seal,
+    pub next: Cursor,
+}
+
+// The count byte of a section of at most limit elements. It counts none where it is above the limit or not there.
+pub fn count_up_to(c: Cursor, s: &[u8], limit: u8) -> CountRead
+    ensures { λ r. ⌜ viewCountRead r ≡ countUpTo limit (now (s .entry)) c ⌝ }
+{
+    let b = c.byte(s);
+    let next = b.next.expect_that(b.value <= limit);
+    if next.ok {
+        return CountRead {
+            value: b.value as usize,
+            next,
+        };
+    }
+    CountRead { value: 0, next }
+}
+
+// A config byte: 1 to 6.
+pub fn read_config(c: Cursor, s: &[u8]) -> ByteRead
+    ensures { λ r. ⌜ viewByte r ≡ readConfig (now (s .entry)) c ⌝ }
+{
+    let b = c.byte(s);
+    let value = b.value;
+    let next = b.next.expect_that((1 <= value) & (value <= 6));
+    ByteRead { value, next }
+}
+
+pub fn read_configs(c: Cursor, s: &[u8]) -> ConfigsRead
+    ensures { λ r. ⌜ viewConfigsRead r ≡ readConfigs (now (s .entry)) c ⌝ }
+{
+    let n = count_up_to(c, s, 8);
+    let count = n.value;
+    let mut next = n.next;
+    let mut value = Configs::empty();
+    let mut i: usize = 0;
+    while i < count {
+        let b = read_config(next, s);
+        value = value.push(b.value).configs;
+        next = b.next;
+        i += 1;
+    }
+    ConfigsRead { value, next }
+}
+
+pub fn read_prefixes(c: Cursor, s: &[u8]) -> PrefixesRead
+    ensures { λ r. ⌜ viewPrefixesRead r ≡ readPrefixes (now (s .entry)) c ⌝ }
+{
+    let n = count_up_to(c, s, 16);
+    let count = n.value;
+    let mut next = n.next;
+    let mut value = Members::empty();
+    let mut i: usize = 0;
+    while i < count {
+        let p = next.prefix(s);
+        value = value.push(p.value).members;
+        next = p.next;
+        i += 1;
+    }
+    PrefixesRead { value, next }
+}
+
+// A threshold has 16 bytes in an event, and has to fit 32 bits.
+pub fn read_toad(c: Cursor, s: &[u8]) -> ToadRead
+    ensures { λ r. ⌜ viewToadRead r ≡ readToad (now (s .entry)) c ⌝ }
+{
+    let n = c.sn(s);
+    let number = n.value;
+    let above = Sn {
+        hi: 0,
+        lo: 4294967296,
+    };
+    let next = n.next.expect_that(number.less(above));
+    let value = Toad::from_wire((number.lo % 4294967296) as u32);
+    ToadRead { value, next }
+}
+
+// A seal that is no event seal: no rule reads its content, and it has no bytes but its kind.
+fn seal_of(kind: u8) -> Seal
+    ensures { λ r. ⌜ r ≡ sealOf kind ⌝ }
+{
+    match kind {
+        1 => Seal::Digest,
+        2 => Seal::Root,
+        3 => Seal::Source,
+        5 => Seal::Last,
+        6 => Seal::Back,
+        7 => Seal::Kind,
+        _ => Seal::Opaque,
+    }
+}
+
+// An event seal, behind its kind.
+fn read_event_seal(c: Cursor, s: &[u8]) -> SealRead
+    ensures { λ r. ⌜ viewSealRead r ≡ readEventSeal (now (s .entry)) c ⌝ }
+{
+    let i = c.identifier(s);
+    let n = i.next.sn(s);
+    let d = n.next.said(s);
+    let identifier = Identifier::from_matter(i.value);
+    let number = n.value;
+    let said = d.value;
+    let next = d.next;
+    SealRead {
+        value: Seal::Event {
+            i: identifier,
+            s: number,
+            d: said,
+        },
+        next,
+    }
+}
+
+fn read_other_seal(c: Cursor, s: &[u8]) -> SealRead
+    ensures { λ r. ⌜ viewSealRead r ≡ readOtherSeal (now (s .entry)) c ⌝ }
+{
+    let k = c.byte(s);
+    let kind = k.value;
+    let next = k.next.expect_that((1 <= kind) & (kind <= 8));
+    let value = seal_of(kind);
+    SealRead { value, next }
+}
+
+pub fn read_seal(c: Cursor, s: &[u8]) -> SealRead
+    ensures { λ r. ⌜ viewSealRead r ≡ readSeal (now (s .entry)) c ⌝ }
+{
+    let k = c.byte(s);
+    if k.value == 4 {
+        return read_event_seal(k.next, s);
+    }
+    read_other_seal(c, s)
+}
+
+// Behind a section of at most 8 seals, each held to its layout. The seals stay in the bytes.
+pub fn pass_seals(c: Cursor, s: &[u8]) -> Cursor
+    ensures { λ r. ⌜ r ≡ section 8 readSeal (now (s .entry)) c .next ⌝ }
+{
+    let n = count_up_to(c, s, 8);
+    let count = n.value;
+    let mut next = n.next;
+    let mut i: usize = 0;
+    while i < count {
+        let seal = read_seal(next, s);
+        next = seal.next;
+        i += 1;
+    }
+    next
+}
