@@ -71,6 +71,10 @@ credentialOf t = record { registry = t .0; credential = t .1 .0; sn = t .1 .1 .0
 unfoldable pub readCredential : Reader CredentialState
 readCredential s c = mapped credentialOf (both readSaid (both readSaid (both readNumber readSaid))) s c
 
+-- a backer's letter is a basic prefix's
+abbrev pub isBacker : BasicPrefix → Bool
+isBacker p = isBasic (p .0)
+
 -- what a state that is handed in as a value is held to: its counts, its letters, its config bytes
 unfoldable pub wellRegistry : RegistryState → Bool
 wellRegistry g =
@@ -78,7 +82,7 @@ wellRegistry g =
     && (leb (g .backers .count) 16
     && (isSaid (g .id .0)
     && (isIdentifier (g .issuer)
-    && (isSaid (g .latest .0) && (all isConfig (viewConfigs (g .configs)) && all (λ p. isBasic (p .0)) (view (g .backers)))))))
+    && (isSaid (g .latest .0) && (all isConfig (viewConfigs (g .configs)) && all isBacker (view (g .backers)))))))
 
 unfoldable pub wellCredential : CredentialState → Bool
 wellCredential w = isSaid (w .registry .0) && (isSaid (w .credential .0) && isSaid (w .head .0))
