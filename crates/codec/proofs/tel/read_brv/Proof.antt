@@ -1,0 +1,66 @@
+use Rattle.codec.specs.Events.{readBrv}
+use borrow.Author.Needs.{needs}
+use Rattle.codec.proofs.tel.read_brv.Statement.{statement}
+use Rattle.codec.proofs.tel.read_brv.Tie as tie
+
+count-requires : tie.Need-count-requires
+count-requires c κs = search needs
+
+said-requires : tie.Need-said-requires
+said-requires c κs = search needs
+
+said-requires-2 : tie.Need-said-requires-2
+said-requires-2 c κs = search needs
+
+said-requires-3 : tie.Need-said-requires-3
+said-requires-3 c κs = search needs
+
+pass-empty-requires : tie.Need-pass-empty-requires
+pass-empty-requires c κs = search needs
+
+count-requires-2 : tie.Need-count-requires-2
+count-requires-2 c κs = search needs
+
+read-seal-requires : tie.Need-read-seal-requires
+read-seal-requires c κs = search needs
+
+blank-requires : tie.Need-blank-requires
+blank-requires c κs = search needs
+
+returns : tie.Need-returns
+unfolding readBrv
+returns c =
+    let b2 = c .before .before in
+    let b4 = b2 .before .before in
+    let b5 = b4 .before in
+    let b6 = b5 .before in
+    let b7 = b6 .before in
+    let b8 = b7 .before in
+    let b9 = b8 .before in
+    let b10 = b9 .before in
+    rw (
+      ← b10 .count .ensures,
+      ← b9 .said .ensures,
+      ← b8 .said2 .ensures,
+      ← b7 .said3 .ensures,
+      ← b6 .pass-empty .ensures,
+      ← b5 .count2 .ensures,
+      ← b4 .read-seal .ensures,
+      b2 .blank .ensures .0,
+      b2 .blank .ensures .1,
+      b2 .blank .ensures .2,
+    )
+
+pub read-brv-spec : {M : Type 1} → statement M
+read-brv-spec =
+    tie.close
+    (tie.spec
+    count-requires
+    said-requires
+    said-requires-2
+    said-requires-3
+    pass-empty-requires
+    count-requires-2
+    read-seal-requires
+    blank-requires
+    returns)

@@ -1,0 +1,59 @@
+use Rattle.codec.specs.Events.{readIss}
+use borrow.Author.Needs.{needs}
+use Rattle.codec.proofs.tel.read_iss.Statement.{statement}
+use Rattle.codec.proofs.tel.read_iss.Tie as tie
+
+count-requires : tie.Need-count-requires
+count-requires c κs = search needs
+
+said-requires : tie.Need-said-requires
+said-requires c κs = search needs
+
+said-requires-2 : tie.Need-said-requires-2
+said-requires-2 c κs = search needs
+
+said-requires-3 : tie.Need-said-requires-3
+said-requires-3 c κs = search needs
+
+pass-empty-requires : tie.Need-pass-empty-requires
+pass-empty-requires c κs = search needs
+
+count-requires-2 : tie.Need-count-requires-2
+count-requires-2 c κs = search needs
+
+blank-requires : tie.Need-blank-requires
+blank-requires c κs = search needs
+
+returns : tie.Need-returns
+unfolding readIss
+returns c =
+    let b2 = c .before .before in
+    let b3 = b2 .before in
+    let b4 = b3 .before in
+    let b5 = b4 .before in
+    let b6 = b5 .before in
+    let b7 = b6 .before in
+    let b8 = b7 .before in
+    rw (
+      ← b8 .count .ensures,
+      ← b7 .said .ensures,
+      ← b6 .said2 .ensures,
+      ← b5 .said3 .ensures,
+      ← b4 .pass-empty .ensures,
+      ← b3 .count2 .ensures,
+      b2 .blank .ensures .0,
+      b2 .blank .ensures .1,
+    )
+
+pub read-iss-spec : {M : Type 1} → statement M
+read-iss-spec =
+    tie.close
+    (tie.spec
+    count-requires
+    said-requires
+    said-requires-2
+    said-requires-3
+    pass-empty-requires
+    count-requires-2
+    blank-requires
+    returns)

@@ -1,0 +1,77 @@
+use Rattle.codec.specs.Events.{readVcp}
+use borrow.Author.Needs.{needs}
+use Rattle.codec.proofs.tel.read_vcp.Statement.{statement}
+use Rattle.codec.proofs.tel.read_vcp.Tie as tie
+
+count-requires : tie.Need-count-requires
+count-requires c κs = search needs
+
+said-requires : tie.Need-said-requires
+said-requires c κs = search needs
+
+identifier-requires : tie.Need-identifier-requires
+identifier-requires c κs = search needs
+
+count-requires-2 : tie.Need-count-requires-2
+count-requires-2 c κs = search needs
+
+read-toad-requires : tie.Need-read-toad-requires
+read-toad-requires c κs = search needs
+
+read-configs-requires : tie.Need-read-configs-requires
+read-configs-requires c κs = search needs
+
+read-prefixes-requires : tie.Need-read-prefixes-requires
+read-prefixes-requires c κs = search needs
+
+count-requires-3 : tie.Need-count-requires-3
+count-requires-3 c κs = search needs
+
+count-requires-4 : tie.Need-count-requires-4
+count-requires-4 c κs = search needs
+
+blank-requires : tie.Need-blank-requires
+blank-requires c κs = search needs
+
+returns : tie.Need-returns
+unfolding readVcp
+returns c =
+    let b4 = c .before .before .before .before in
+    let b5 = b4 .before in
+    let b6 = b5 .before in
+    let b7 = b6 .before in
+    let b8 = b7 .before in
+    let b9 = b8 .before in
+    let b10 = b9 .before in
+    let b11 = b10 .before in
+    let b12 = b11 .before in
+    let b13 = b12 .before in
+    rw (
+      ← b13 .count .ensures,
+      ← b12 .said .ensures,
+      ← b11 .identifier .ensures,
+      ← b10 .count2 .ensures,
+      ← b9 .read-toad .ensures,
+      ← b8 .read-configs .ensures,
+      ← b7 .read-prefixes .ensures,
+      ← b6 .count3 .ensures,
+      ← b5 .count4 .ensures,
+      b4 .blank .ensures .0,
+      b4 .blank .ensures .1,
+    )
+
+pub read-vcp-spec : {M : Type 1} → statement M
+read-vcp-spec =
+    tie.close
+    (tie.spec
+    count-requires
+    said-requires
+    identifier-requires
+    count-requires-2
+    read-toad-requires
+    read-configs-requires
+    read-prefixes-requires
+    count-requires-3
+    count-requires-4
+    blank-requires
+    returns)

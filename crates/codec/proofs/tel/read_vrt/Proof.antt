@@ -1,0 +1,89 @@
+use Rattle.codec.specs.Events.{readVrt}
+use borrow.Author.Needs.{needs}
+use Rattle.codec.proofs.tel.read_vrt.Statement.{statement}
+use Rattle.codec.proofs.tel.read_vrt.Tie as tie
+
+count-requires : tie.Need-count-requires
+count-requires c κs = search needs
+
+said-requires : tie.Need-said-requires
+said-requires c κs = search needs
+
+said-requires-2 : tie.Need-said-requires-2
+said-requires-2 c κs = search needs
+
+said-requires-3 : tie.Need-said-requires-3
+said-requires-3 c κs = search needs
+
+count-requires-2 : tie.Need-count-requires-2
+count-requires-2 c κs = search needs
+
+sn-requires : tie.Need-sn-requires
+sn-requires c κs = search needs
+
+read-toad-requires : tie.Need-read-toad-requires
+read-toad-requires c κs = search needs
+
+count-requires-3 : tie.Need-count-requires-3
+count-requires-3 c κs = search needs
+
+read-prefixes-requires : tie.Need-read-prefixes-requires
+read-prefixes-requires c κs = search needs
+
+read-prefixes-requires-2 : tie.Need-read-prefixes-requires-2
+read-prefixes-requires-2 c κs = search needs
+
+count-requires-4 : tie.Need-count-requires-4
+count-requires-4 c κs = search needs
+
+blank-requires : tie.Need-blank-requires
+blank-requires c κs = search needs
+
+returns : tie.Need-returns
+unfolding readVrt
+returns c =
+    let b6 = c .before .before .before .before .before .before in
+    let b7 = b6 .before in
+    let b8 = b7 .before in
+    let b9 = b8 .before in
+    let b10 = b9 .before in
+    let b11 = b10 .before in
+    let b12 = b11 .before in
+    let b13 = b12 .before in
+    let b14 = b13 .before in
+    let b15 = b14 .before in
+    let b16 = b15 .before in
+    let b17 = b16 .before in
+    rw (
+      ← b17 .count .ensures,
+      ← b16 .said .ensures,
+      ← b15 .said2 .ensures,
+      ← b14 .said3 .ensures,
+      ← b13 .count2 .ensures,
+      ← b12 .sn .ensures,
+      ← b11 .read-toad .ensures,
+      ← b10 .count3 .ensures,
+      ← b9 .read-prefixes .ensures,
+      ← b8 .read-prefixes2 .ensures,
+      ← b7 .count4 .ensures,
+      b6 .blank .ensures .0,
+      b6 .blank .ensures .1,
+    )
+
+pub read-vrt-spec : {M : Type 1} → statement M
+read-vrt-spec =
+    tie.close
+    (tie.spec
+    count-requires
+    said-requires
+    said-requires-2
+    said-requires-3
+    count-requires-2
+    sn-requires
+    read-toad-requires
+    count-requires-3
+    read-prefixes-requires
+    read-prefixes-requires-2
+    count-requires-4
+    blank-requires
+    returns)
