@@ -86,3 +86,11 @@ wellRegistry g =
 
 unfoldable pub wellCredential : CredentialState → Bool
 wellCredential w = isSaid (w .registry .0) && (isSaid (w .credential .0) && isSaid (w .head .0))
+
+-- what a credential state is, and what a registry state begins with: two primitives, a number, a primitive
+unfoldable pub headBytes : Matter → Matter → Sn → Matter → List ℕ
+headBytes a b n d = matterBytes a ++ (matterBytes b ++ (snBytes n ++ matterBytes d))
+
+-- what stands behind the head of a registry state
+unfoldable pub restBytes : ℕ → List ℕ → List BasicPrefix → List ℕ
+restBytes toad configs backers = digits 4 toad ++ (sectionBytes byteBytes configs ++ sectionBytes prefixBytes backers)

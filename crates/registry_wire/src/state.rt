@@ -6,11 +6,12 @@ use events::config::Configs;
 use events::member_set::Members;
 use events::toad::Toad;
 ghost use mathlib.Core.Path.{_≡_};
+ghost use lib.ListN.{length};
 ghost use Rattle.events.specs.Configs.{viewConfigs};
 ghost use Rattle.events.specs.Members.{view};
 ghost use Rattle.codec.specs.Events.{isConfig};
 ghost use Rattle.codec.specs.Layout.{all};
-ghost use Rattle.registry_wire.specs.States.{isBacker, wellRegistry, wellCredential};
+ghost use Rattle.registry_wire.specs.States.{viewRegistry, registryBytes, isBacker, wellRegistry, wellCredential};
 
 pub struct RegistryState {
     pub id: Said,
@@ -41,6 +42,13 @@ impl RegistryState {
         let lists = all_configs(self.configs) & all_backers(self.backers);
         let letters = self.id.0.is_said() & (issuer & (self.latest.0.is_said() & lists));
         (self.configs.count <= 8) & ((self.backers.count <= 16) & letters)
+    }
+
+    // How many bytes it has: 121, the config bytes, and 33 for each backer.
+    pub fn size(self) -> usize
+        ensures { λ r. ⌜ r ≡ length (registryBytes (viewRegistry self)) ⌝ }
+    {
+        121 + self.configs.size() + 33 * self.backers.size()
     }
 }
 
