@@ -19,17 +19,13 @@ use Rattle.cesr.specs.declared.number.Sn.{Sn}
 use Rattle.cesr.specs.declared.primitive.Matter.{Matter}
 use Rattle.cesr.specs.Numbers.{value, snOf, readSn, snBytes}
 use Rattle.cesr.specs.Primitives.{none, matterBytes, readMatter, eqMatter}
-use Rattle.cesr.proofs.Words.{Fit, words-value, value-words}
+use Rattle.cesr.proofs.Words.{Fit, words-value, value-words, value-fits}
 use Rattle.cesr.proofs.Matters.{made, length-matter, matter-eq, eq-matter}
 
 pub sn-back : (l : List ℕ) (at : ℕ) (n : Sn) → Fit n → at + 16 ≤ length l → readSn (put l at (snBytes n)) at ≡ n
-unfolding readSn snBytes value
+unfolding readSn snBytes
 sn-back l at n f h =
-    let b : n .hi * 2 ^ 64 + n .lo < 256 ^ 16 = below (n .hi) (n .lo) (f .hi) (f .lo) in
-    ap snOf (at-put l at 16 (n .hi * 2 ^ 64 + n .lo) h b) ∙ words-value n f
-  where
-    below : (h l : ℕ) → h < 2 ^ 64 → l < 2 ^ 64 → h * 2 ^ 64 + l < 256 ^ 16
-    below h l p q = lib.Arith.digits-lt p q
+    ap snOf (at-put l at 16 (value n) h (value-fits n (f .hi) (f .lo))) ∙ words-value n f
 
 numberAt-below : (l : List ℕ) (at n : ℕ) → Bytes l → 0 < 256 ^ n → numberAt l at n < 256 ^ n
 unfolding numberAt
@@ -49,6 +45,21 @@ pub record Filled (m : Matter) : Type 0 where
   pub w1 : m .w1 < 256 ^ 8
   pub w2 : m .w2 < 256 ^ 8
   pub w3 : m .w3 < 256 ^ 8
+
+-- the words of a primitive that was read are words
+pub read-filled : (s : List ℕ) (at : ℕ) → Bytes s → Filled (readMatter s at)
+unfolding readMatter
+read-filled s at b = go (room s at 33)
+  where
+    whole : Filled (record { code = getD s at 0; w0 = number s (at + 1) 8; w1 = number s (at + 9) 8; w2 = number s (at + 17) 8; w3 = number s (at + 25) 8 })
+    whole = record { w0 = number-below s (at + 1) 8 b; w1 = number-below s (at + 9) 8 b; w2 = number-below s (at + 17) 8 b; w3 = number-below s (at + 25) 8 b }
+
+    empty : Filled none
+    empty = record { w0 = lib.Dec.lit< tt; w1 = lib.Dec.lit< tt; w2 = lib.Dec.lit< tt; w3 = lib.Dec.lit< tt }
+
+    go : (t : Bool) → Filled (cond t (record { code = getD s at 0; w0 = number s (at + 1) 8; w1 = number s (at + 9) 8; w2 = number s (at + 17) 8; w3 = number s (at + 25) 8 }) none)
+    go true = whole
+    go false = empty
 
 -- a primitive is found where its bytes stand
 pub matter-at : (x : Matter) (p q l : List ℕ) (at : ℕ) → Filled x → l ≡ p ++ (matterBytes x ++ q) → length p ≡ at → readMatter l at ≡ x

@@ -6,11 +6,11 @@ use Prim.Native.Nat.{ℕ, _+_, _-_, _*_, _/_, _%_, _^_, _<_, _≤_}
 use mathlib.Core.Path.{_≡_, refl, ap, ap₂, sym, _∙_}
 use mathlib.Core.List.{List, _++_}
 use mathlib.Core.Bool.{Bool, true, false, _&&_, _||_, and-false, or-false}
-use native.Mathlib.Nat.{mod-eq-of-lt, div-add-mod', div-lt-iff-lt-mul}
+use native.Mathlib.Nat.{mod-lt, mod-eq-of-lt, div-add-mod', div-lt-iff-lt-mul}
 use native.Mathlib.Omega.{arith}
 use native.Mathlib.Decide.{decLt, ℕ-discrete}
 use borrow.Author.Tests.{eq-eqb, ne-eqb, lt-ltb, le-ltb}
-use lib.Arith.{digits-div, digits-mod}
+use lib.Arith.{digits-lt, digits-div, digits-mod}
 use lib.Dec.{eqb, ltb, leb, lit<}
 use lib.ListN.{length}
 use Rattle.laws.specs.Number.{number, numberAt, digits}
@@ -97,3 +97,12 @@ words-bytes n p =
     let v = n .hi * 2 ^ 64 + n .lo in
     let r : digits 8 v ≡ digits 8 (n .lo) = sym (digits-rest 8 v) ∙ ap (digits 8) (digits-mod (n .hi) p) in
     digits-split 8 8 v ∙ ap₂ (λ (a b : List ℕ). a ++ b) (ap (digits 8) (digits-div (n .hi) p)) r
+
+-- the words of any number are words
+pub snOf-good : (v : ℕ) → (ltb (snOf v .hi) (2 ^ 64) && ltb (snOf v .lo) (2 ^ 64)) ≡ true
+unfolding snOf
+snOf-good v = rw (lt-ltb (v / 2 ^ 64 % 2 ^ 64) (2 ^ 64) (mod-lt (v / 2 ^ 64) (lit< tt)), lt-ltb (v % 2 ^ 64) (2 ^ 64) (mod-lt v (lit< tt)))
+
+pub value-fits : (n : Sn) → n .hi < 2 ^ 64 → n .lo < 2 ^ 64 → value n < 256 ^ 16
+unfolding value
+value-fits n p q = digits-lt p q

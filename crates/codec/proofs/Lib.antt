@@ -1,1 +1,6 @@
 pub mod Loops
+pub mod Stands
+pub mod Codes
+pub mod CodesList
+pub mod CodesSeal
+pub mod CodesEvent
