@@ -1,2 +1,4 @@
+pub mod StateLoops
+pub mod AttemptLaws
 pub mod CodesState
 pub mod CodesAttempt

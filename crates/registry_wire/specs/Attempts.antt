@@ -24,6 +24,11 @@ use Rattle.registry_wire.specs.declared.attempt.Part.{Part}
 use Rattle.registry_wire.specs.declared.attempt.Counted.{Counted}
 use Rattle.registry_wire.specs.declared.attempt.DecodedAttempt.{DecodedAttempt}
 use Rattle.registry_wire.specs.declared.attempt.Attempt.{Attempt}
+use Rattle.registry_wire.specs.declared.attempt.SourceRead.{SourceRead}
+use Rattle.registry_wire.specs.declared.attempt.SourcesRead.{SourcesRead}
+use Rattle.registry_wire.specs.declared.attempt.AnchorsRead.{AnchorsRead}
+use Rattle.registry_wire.specs.declared.signatures.SignatureRead.{SignatureRead}
+use Rattle.registry_wire.specs.declared.signatures.SignaturesRead.{SignaturesRead}
 
 -- an anchoring event
 pub record Anchor : Type 0 where
@@ -218,3 +223,21 @@ unfoldable pub anchorSeals : List ℕ → Matter → Sn → Said → Bool
 anchorSeals b i s d =
     let r = readSeal b (counted 1 b starting) in
     (r .next .ok && eqb (r .next .at) (length b)) && sealsEvent (r .value) i s d
+
+-- what the structs of the code stand for
+abbrev pub viewSignature : SignatureRead → Read Signature
+viewSignature r = record { value = record { index = r .index; verdict = r .verdict }; next = r .next }
+
+abbrev pub viewSource : SourceRead → Read Source
+viewSource r = record { value = r .value; next = r .next }
+
+abbrev pub viewSources : SourcesRead → Read (List Source)
+viewSources r = record { value = cond (eqb (r .count) 0) [] (r .source ∷ []); next = r .next }
+
+-- where a section's anchoring event or signatures stand, behind the count byte, and the cursor behind them
+unfoldable pub passedAnchors : List ℕ → Cursor → AnchorsRead
+passedAnchors s c = record { value = record { from = countUpTo 1 s c .next .at; to = readAnchors s c .next .at }; next = readAnchors s c .next }
+
+unfoldable pub passedSignatures : List ℕ → Cursor → SignaturesRead
+passedSignatures s c =
+    record { value = record { from = countUpTo 64 s c .next .at; count = countUpTo 64 s c .value }; next = section 64 readSignature s c .next }

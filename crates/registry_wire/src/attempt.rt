@@ -3,7 +3,13 @@ use crate::state::RegistryState;
 use cesr::number::Sn;
 use cesr::primitive::Matter;
 use cesr::primitive::Said;
+use codec::cursor::Cursor;
+use codec::section::count_up_to;
+use codec::section::pass_seals;
 use events::tel::TelEvent;
+ghost use mathlib.Core.Path.{_≡_};
+ghost use Rattle.codec.specs.Readers.{section};
+ghost use Rattle.registry_wire.specs.Attempts.{readSource, readAnchor, viewSource, viewSources, passedAnchors};
 
 // The sn and the said of the anchoring event, as the attempt states them.
 pub struct Source {
@@ -44,4 +50,98 @@ pub struct Attempt {
 pub struct DecodedAttempt {
     pub ok: bool,
     pub attempt: Attempt,
+}
+
+pub struct SourceRead {
+    pub value: Source,
+    pub next: Cursor,
+}
+
+pub struct SourcesRead {
+    pub count: usize,
+    pub source: Source,
+    pub next: Cursor,
+}
+
+pub struct AnchorsRead {
+    pub value: Part,
+    pub next: Cursor,
+}
+
+impl Source {
+    // What stands where there is no source.
+    fn none() -> Source {
+        Source {
+            sn: Sn { hi: 0, lo: 0 },
+            said: Said(Matter::none()),
+        }
+    }
+}
+
+fn read_source(c: Cursor, s: &[u8]) -> SourceRead
+    ensures { λ r. ⌜ viewSource r ≡ readSource (now (s .entry)) c ⌝ }
+{
+    let n = c.sn(s);
+    let d = n.next.said(s);
+    let sn = n.value;
+    let said = d.value;
+    let next = d.next;
+    SourceRead {
+        value: Source { sn, said },
+        next,
+    }
+}
+
+// Section 7: at most one source.
+pub fn read_sources(c: Cursor, s: &[u8]) -> SourcesRead
+    ensures { λ r. ⌜ viewSources r ≡ section 1 readSource (now (s .entry)) c ⌝ }
+{
+    let n = count_up_to(c, s, 1);
+    let count = n.value;
+    let start = n.next;
+    if count == 0 {
+        return SourcesRead {
+            count,
+            source: Source::none(),
+            next: start,
+        };
+    }
+    let r = read_source(start, s);
+    let source = r.value;
+    let next = r.next;
+    SourcesRead {
+        count,
+        source,
+        next,
+    }
+}
+
+// Behind an anchoring event, which is held to its layout.
+fn pass_anchor(c: Cursor, s: &[u8]) -> Cursor
+    ensures { λ r. ⌜ r ≡ readAnchor (now (s .entry)) c .next ⌝ }
+{
+    let i = c.identifier(s);
+    let n = i.next.sn(s);
+    let d = n.next.said(s);
+    pass_seals(d.next, s)
+}
+
+// Behind a section of at most one anchoring event. It stays in the bytes; its part is empty where there is none.
+pub fn pass_anchors(c: Cursor, s: &[u8]) -> AnchorsRead
+    ensures { λ r. ⌜ r ≡ passedAnchors (now (s .entry)) c ⌝ }
+{
+    let n = count_up_to(c, s, 1);
+    let start = n.next;
+    let from = start.at;
+    if n.value == 0 {
+        return AnchorsRead {
+            value: Part { from, to: from },
+            next: start,
+        };
+    }
+    let next = pass_anchor(start, s);
+    AnchorsRead {
+        value: Part { from, to: next.at },
+        next,
+    }
 }
