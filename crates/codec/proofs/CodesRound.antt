@@ -1,18 +1,24 @@
 -- The round trips, for any reader that agrees with a layout.
 --     codes-back    what is stored is read
 --     codes-again   what is read is stored without a change
+--     whole-sound, whole-complete   bytes that are read to their end
 use Prim.Native.Nat.{ℕ, _+_, _≤_}
-use mathlib.Core.Path.{_≡_, refl, ap, sym, _∙_}
+use mathlib.Core.Path.{_≡_, refl, ap, sym, subst, _∙_}
 use mathlib.Core.List.{List, [], _∷_, _++_, append-assoc}
-use mathlib.Core.Bool.{Bool, true, false}
+use mathlib.Core.Bool.{Bool, true, false, _&&_}
+use native.Mathlib.Nat.{zero-add}
 use native.Mathlib.Omega.{arith}
+use borrow.Author.Tests.{eq-eqb, eqb-true}
+use lib.Dec.{eqb}
 use lib.ListN.{length, take, drop}
 use lib.Seq.{sets-eq, length-take-le, take-at, drop-at}
 use Rattle.laws.specs.Number.{Bytes}
 use Rattle.laws.specs.Room.{room, put}
 use Rattle.laws.proofs.Room.{put-sets, put-none, room-true, room-false, stored-same}
-use Rattle.codec.specs.Readers.{Reader}
-use Rattle.codec.proofs.Stands.{placed, Stands}
+use Rattle.laws.proofs.Tests.{and-left, and-right}
+use Rattle.codec.specs.declared.cursor.Cursor.{Cursor}
+use Rattle.codec.specs.Readers.{Read, Reader, starting}
+use Rattle.codec.proofs.Stands.{placed, Stands, stands-whole, whole-stands}
 use Rattle.codec.proofs.Codes.{Codes, Told}
 
 -- bytes that were stored stand there
@@ -37,3 +43,18 @@ module _ {A : Type 0} {p : Reader A} {bytes : A → List ℕ} {good : A → Bool
 
   pub codes-again : (l : List ℕ) (at : ℕ) → Bytes l → p l (placed at) .next .ok ≡ true → put l at (bytes (p l (placed at) .value)) ≡ l
   codes-again l at b h = stands-put l at (bytes (p l (placed at) .value)) (k .sound l (placed at) b h .stands)
+
+  -- bytes that a reader reads whole are the layout of what it gives, and the layout is read whole
+  pub whole-sound : (s : List ℕ) → Bytes s → (p s starting .next .ok && eqb (p s starting .next .at) (length s)) ≡ true → (s ≡ bytes (p s starting .value)) × (good (p s starting .value) ≡ true)
+  whole-sound s b h =
+      let r = p s starting in
+      let t = k .sound s starting b (and-left (r .next .ok) (eqb (r .next .at) (length s)) h) in
+      let n : r .next .at ≡ length s = eqb-true (r .next .at) (length s) (and-right (r .next .ok) (eqb (r .next .at) (length s)) h) in
+      let m : 0 + length (bytes (r .value)) ≡ length s = sym (ap (λ (d : Cursor). d .at) (t .next)) ∙ n in
+      (stands-whole s (bytes (r .value)) (t .stands) (sym (zero-add (length (bytes (r .value)))) ∙ m), t .limits)
+
+  pub whole-complete : (s : List ℕ) (x : A) → s ≡ bytes x → good x ≡ true → ((p s starting .next .ok && eqb (p s starting .next .at) (length s)) ≡ true) × (p s starting .value ≡ x)
+  whole-complete s x e g =
+      let c = k .complete s starting x refl (subst (λ (l : List ℕ). Stands s 0 l) e (whole-stands s)) g in
+      let n : eqb (0 + length (bytes x)) (length s) ≡ true = eq-eqb (0 + length (bytes x)) (length s) (zero-add (length (bytes x)) ∙ ap length (sym e)) in
+      (rw (c, n), ap (λ (r : Read A). r .value) c)

@@ -5,3 +5,4 @@ pub mod CodesList
 pub mod CodesSeal
 pub mod CodesEvent
 pub mod CodesRound
+pub mod CodesPlain

@@ -2,3 +2,4 @@ pub mod StateLoops
 pub mod AttemptLaws
 pub mod CodesState
 pub mod CodesAttempt
+pub mod CodesStatus
