@@ -3,3 +3,4 @@ pub mod AttemptLaws
 pub mod CodesState
 pub mod CodesAttempt
 pub mod CodesStatus
+pub mod OnlySeal
