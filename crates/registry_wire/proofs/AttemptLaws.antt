@@ -15,13 +15,25 @@ use lib.ListN.{length, length-append}
 use Rattle.laws.specs.Number.{Bytes}
 use Rattle.cesr.specs.declared.primitive.Matter.{Matter}
 use Rattle.cesr.proofs.Matters.{length-matter}
+use Rattle.events.specs.TelEvents.{Event}
 use Rattle.codec.specs.declared.cursor.Cursor.{Cursor}
-use Rattle.codec.specs.Readers.{Read, Reader, times, countUpTo, section}
+use Rattle.codec.specs.Readers.{Read, Reader, starting, need, readByte, readIdentifier, counted, times, countUpTo, section}
+use Rattle.codec.specs.Events.{readEvent}
 use Rattle.codec.proofs.Loops.{count-within}
 use Rattle.codec.proofs.Codes.{codes-after}
-use Rattle.codec.proofs.CodesList.{codes-times}
-use Rattle.registry_wire.specs.Attempts.{Anchor, placed, anchorBytes, signatureBytes, goodSignature, readAnchor, readAnchors, readSignature, anchorsIn, signaturesIn, passedAnchors, passedSignatures}
-use Rattle.registry_wire.proofs.CodesAttempt.{codes-anchor, codes-signature}
+use Rattle.codec.proofs.CodesList.{codes-times, codes-section}
+use Rattle.registry_wire.specs.States.{readRegistry, viewRegistryRead}
+use Rattle.registry_wire.specs.Attempts.{Anchor, Evidence, Decoded, placed, anchorBytes, signatureBytes, goodSignature, readSource, readAnchor, readAnchors, readSignature, readIssuer, readBackerAt, readEvidence, readMessage, decodeOf, anchorsIn, signaturesIn, evidenceAs, ReadAs, passedAnchors, passedSignatures}
+use Rattle.registry_wire.specs.Attempts.Evidence.{missing, issuer, backer, backerAt}
+use Rattle.registry_wire.specs.Attempts.Decoded.{malformed, decoded}
+use Rattle.registry_wire.specs.declared.state.RegistryState.{RegistryState}
+use Rattle.registry_wire.specs.declared.state.RegistryRead.{RegistryRead}
+use Rattle.registry_wire.specs.declared.attempt.Source.{Source}
+use Rattle.registry_wire.specs.declared.attempt.Part.{Part}
+use Rattle.registry_wire.specs.declared.attempt.AnchorsRead.{AnchorsRead}
+use Rattle.registry_wire.specs.declared.attempt.EvidenceRead.{EvidenceRead}
+use Rattle.registry_wire.specs.declared.signatures.SignaturesRead.{SignaturesRead}
+use Rattle.registry_wire.proofs.CodesAttempt.{codes-anchor, codes-signature, codes-evidence}
 
 module _ {A : Type 0} (p : Reader A) (s : List ℕ) (c : Cursor) where
   pub section-none : (limit : ℕ) (n : Read ℕ) → n ≡ countUpTo limit s c → n .value ≡ 0 → section limit p s c ≡ record { value = []; next = n .next }
@@ -65,3 +77,77 @@ module _ (s : List ℕ) (c : Cursor) (b : Bytes s) where
           let e : r .next .at ≡ d .at + length (anchorBytes (r .value)) = ap (λ (x : Cursor). x .at) (t .next) in
           rw (ne-eqb (d .at) (r .next .at) (λ q. omega (arith, anchor-some (r .value))), at-place d (t .ok))
       go (suc (suc k)) l h = absurd (omega arith)
+
+-- evidence by its byte
+module _ (s : List ℕ) (c : Cursor) (k : Read ℕ) (e : k ≡ readByte s c) where
+  pub evidence-issuer : k .value ≡ 1 → readEvidence s c ≡ readIssuer s (k .next)
+  unfolding readEvidence
+  evidence-issuer h = rw (← e, h)
+
+  pub evidence-state : k .value ≡ 3 → readEvidence s c ≡ readBackerAt s (k .next)
+  unfolding readEvidence
+  evidence-state h = rw (← e, h)
+
+  pub evidence-plain : (k .value ≡ 1 → ⊥) → (k .value ≡ 3 → ⊥) → readEvidence s c ≡ record { value = cond (eqb (k .value) 2) backer missing; next = need (k .next) (eqb (k .value) 0 || eqb (k .value) 2) }
+  unfolding readEvidence
+  evidence-plain h l = rw (← e, ne-eqb (k .value) 1 h, ne-eqb (k .value) 3 l)
+
+module _ (s : List ℕ) (c : Cursor) where
+  pub issuer-read : Bytes s → (m : Read Matter) (a : AnchorsRead) (g : RegistryState) → m ≡ readIdentifier s c → a ≡ passedAnchors s (m .next) → ReadAs s (record { kind = 1; issuer = m .value; carried = a .value; management = g; next = a .next }) (readIssuer s c)
+  unfolding readIssuer evidenceAs passedAnchors
+  issuer-read b m a g em ea =
+      let n : a .next ≡ readAnchors s (m .next) .next = ap (λ (x : AnchorsRead). x .next) ea in
+      record {
+        next = rw (← em) n;
+        value = λ h.
+            rw (← em)
+            (ap (issuer (m .value))
+            (ap (λ (x : AnchorsRead). anchorsIn s (x .value)) ea ∙ anchors-in s (m .next) b (rw n at h)));
+      }
+
+  pub state-read : (r : RegistryRead) (m : Matter) (p : Part) → viewRegistryRead r ≡ readRegistry s c → ReadAs s (record { kind = 3; issuer = m; carried = p; management = r .value; next = r .next }) (readBackerAt s c)
+  unfolding readBackerAt evidenceAs
+  state-read r m p e = record { next = rw (← e); value = λ h. rw (← e) }
+
+  pub plain-read : (k : ℕ) (m : Matter) (p : Part) (g : RegistryState) (d : Cursor) → (k ≡ 1 → ⊥) → (k ≡ 3 → ⊥) → d ≡ c → ReadAs s (record { kind = k; issuer = m; carried = p; management = g; next = d }) (record { value = cond (eqb k 2) backer missing; next = c })
+  unfolding evidenceAs
+  plain-read k m p g d h l e = record { next = e; value = λ o. rw (ne-eqb k 1 h, ne-eqb k 3 l) }
+
+-- what follows a test that fails does not matter
+where-true : (t q : Bool) (x y : Decoded) → (t ≡ true → x ≡ y) → cond (t && q) x malformed ≡ cond (t && q) y malformed
+where-true true q x y h = ap (λ (z : Decoded). cond q z malformed) (h refl)
+where-true false q x y h = refl
+
+-- where the sections begin
+module _ (s : List ℕ) where
+  abbrev source-at : Cursor
+  source-at = readEvent s starting .next
+
+  abbrev anchor-at : Cursor
+  anchor-at = section 1 readSource s source-at .next
+
+  abbrev signature-at : Cursor
+  signature-at = readAnchors s anchor-at .next
+
+  abbrev count-at : Cursor
+  count-at = section 64 readSignature s signature-at .next
+
+  abbrev evidence-at : Cursor
+  evidence-at = counted 1 s count-at
+
+  -- a cursor that has not stopped at the end had not stopped before
+  parts-read : Bytes s → (v : EvidenceRead) → ReadAs s v (readEvidence s evidence-at) → cond (v .next .ok && eqb (v .next .at) (length s)) (decoded (record { event = readEvent s starting .value; source = section 1 readSource s source-at .value; anchor = anchorsIn s (passedAnchors s anchor-at .value); signatures = signaturesIn s (passedSignatures s signature-at .value); evidence = evidenceAs s (v .kind) (v .issuer) (v .carried) (v .management) })) malformed ≡ decodeOf s
+  unfolding decodeOf readMessage
+  parts-read b v r =
+      rw (← r .next)
+      (where-true (v .next .ok) _ _ _
+      (λ h.
+      let g = codes-after 1 (lit< tt) codes-evidence .sound s count-at b (rw (r .next) at h) .ok in
+      let a = codes-section readSignature signatureBytes goodSignature codes-signature 64 (lit< tt) .sound s signature-at b g .ok in
+      rw (anchors-in s anchor-at b a, signatures-in s signature-at b g, r .value h)))
+
+  pub decode-read : Bytes s → (e : Read Event) (o : Read (List Source)) (a : AnchorsRead) (g : SignaturesRead) (d : Cursor) (v : EvidenceRead) → e ≡ readEvent s starting → o ≡ section 1 readSource s (e .next) → a ≡ passedAnchors s (o .next) → g ≡ passedSignatures s (a .next) → d ≡ counted 1 s (g .next) → ReadAs s v (readEvidence s d) → cond (v .next .ok && eqb (v .next .at) (length s)) (decoded (record { event = e .value; source = o .value; anchor = anchorsIn s (a .value); signatures = signaturesIn s (g .value); evidence = evidenceAs s (v .kind) (v .issuer) (v .carried) (v .management) })) malformed ≡ decodeOf s
+  unfolding passedAnchors passedSignatures
+  decode-read b e o a g d v ee eo ea eg ed r =
+      let q : ReadAs s v (readEvidence s evidence-at) = rw (ed, eg, ea, eo, ee) at r in
+      rw (eg, ea, eo, ee) (parts-read b v q)

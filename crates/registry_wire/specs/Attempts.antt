@@ -1,5 +1,6 @@
 -- Attempts: their layout and limits (docs/RULES.md, "Bytes"), and how they are read.
 use Prim.Native.Nat.{ℕ, _^_}
+use mathlib.Core.Path.{_≡_}
 use mathlib.Core.List.{List, [], _∷_, _++_}
 use mathlib.Core.Bool.{Bool, true, false, cond, _&&_, _||_}
 use lib.Dec.{leb, ltb, eqb}
@@ -19,6 +20,7 @@ use Rattle.codec.specs.Readers.{Read, Reader, starting, need, readByte, readByt
 use Rattle.codec.specs.Events.{readSeal, readEvent}
 use Rattle.codec.specs.Layout.{sectionBytes, all, saidBytes, sealBytes, eventBytes, goodSaid, goodIdentifier, goodSn, goodSeal, goodEvent}
 use Rattle.registry_wire.specs.States.{Registry, viewRegistry, registryBytes, goodRegistry, readRegistry}
+use Rattle.registry_wire.specs.declared.state.RegistryState.{RegistryState}
 use Rattle.registry_wire.specs.declared.attempt.Source.{Source}
 use Rattle.registry_wire.specs.declared.attempt.Part.{Part}
 use Rattle.registry_wire.specs.declared.attempt.Counted.{Counted}
@@ -27,6 +29,7 @@ use Rattle.registry_wire.specs.declared.attempt.Attempt.{Attempt}
 use Rattle.registry_wire.specs.declared.attempt.SourceRead.{SourceRead}
 use Rattle.registry_wire.specs.declared.attempt.SourcesRead.{SourcesRead}
 use Rattle.registry_wire.specs.declared.attempt.AnchorsRead.{AnchorsRead}
+use Rattle.registry_wire.specs.declared.attempt.EvidenceRead.{EvidenceRead}
 use Rattle.registry_wire.specs.declared.signatures.SignatureRead.{SignatureRead}
 use Rattle.registry_wire.specs.declared.signatures.SignaturesRead.{SignaturesRead}
 
@@ -176,11 +179,15 @@ signaturesIn s p = times (p .count) readSignature s (placed (p .from)) .value
 unfoldable pub sourcesIn : Attempt → List Source
 sourcesIn a = cond (eqb (a .sources) 0) [] (a .source ∷ [])
 
-unfoldable pub evidenceIn : List ℕ → Attempt → Evidence
-evidenceIn s a =
-    cond (eqb (a .evidence) 1) (issuer (a .issuer) (anchorsIn s (a .carried)))
-    (cond (eqb (a .evidence) 3) (backerAt (viewRegistry (a .management)))
-    (cond (eqb (a .evidence) 2) backer missing))
+-- by the evidence's byte: of Issuer the prefix and the part that it carries, of BackerAt the state
+unfoldable pub evidenceAs : List ℕ → ℕ → Matter → Part → RegistryState → Evidence
+evidenceAs s kind prefix carried management =
+    cond (eqb kind 1) (issuer prefix (anchorsIn s carried))
+    (cond (eqb kind 3) (backerAt (viewRegistry management))
+    (cond (eqb kind 2) backer missing))
+
+abbrev pub evidenceIn : List ℕ → Attempt → Evidence
+evidenceIn s a = evidenceAs s (a .evidence) (a .issuer) (a .carried) (a .management)
 
 abbrev pub viewAttempt : List ℕ → Attempt → Message
 viewAttempt s a =
@@ -241,3 +248,8 @@ passedAnchors s c = record { value = record { from = countUpTo 1 s c .next .at; 
 unfoldable pub passedSignatures : List ℕ → Cursor → SignaturesRead
 passedSignatures s c =
     record { value = record { from = countUpTo 64 s c .next .at; count = countUpTo 64 s c .value }; next = section 64 readSignature s c .next }
+
+-- evidence that was read: the cursor behind it, and, where that has not stopped, what it stands for
+pub record ReadAs (s : List ℕ) (r : EvidenceRead) (e : Read Evidence) : Type 0 where
+  pub next : r .next ≡ e .next
+  pub value : r .next .ok ≡ true → evidenceAs s (r .kind) (r .issuer) (r .carried) (r .management) ≡ e .value

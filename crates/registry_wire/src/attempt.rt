@@ -1,4 +1,5 @@
 // An attempt: an event, its source, the message's anchoring event, signatures and evidence.
+use crate::signatures::pass_signatures;
 use crate::state::RegistryState;
 use cesr::number::Sn;
 use cesr::primitive::Matter;
@@ -6,10 +7,11 @@ use cesr::primitive::Said;
 use codec::cursor::Cursor;
 use codec::section::count_up_to;
 use codec::section::pass_seals;
+use codec::tel::read_event;
 use events::tel::TelEvent;
 ghost use mathlib.Core.Path.{_≡_};
 ghost use Rattle.codec.specs.Readers.{section};
-ghost use Rattle.registry_wire.specs.Attempts.{readSource, readAnchor, viewSource, viewSources, passedAnchors};
+ghost use Rattle.registry_wire.specs.Attempts.{readSource, readAnchor, readIssuer, readBackerAt, readEvidence, viewSource, viewSources, passedAnchors, ReadAs, viewDecoded, decodeOf};
 
 // The sn and the said of the anchoring event, as the attempt states them.
 pub struct Source {
@@ -65,6 +67,15 @@ pub struct SourcesRead {
 
 pub struct AnchorsRead {
     pub value: Part,
+    pub next: Cursor,
+}
+
+// Evidence, in the fields of an attempt. Those that its kind has no use for are blank.
+pub struct EvidenceRead {
+    pub kind: u8,
+    pub issuer: Matter,
+    pub carried: Part,
+    pub management: RegistryState,
     pub next: Cursor,
 }
 
@@ -143,5 +154,97 @@ pub fn pass_anchors(c: Cursor, s: &[u8]) -> AnchorsRead
     AnchorsRead {
         value: Part { from, to: next.at },
         next,
+    }
+}
+
+// Evidence 1, behind its byte: a prefix, and a section like that of the message's anchoring event.
+fn read_issuer(c: Cursor, s: &[u8]) -> EvidenceRead
+    ensures { λ r. ⌜ ReadAs (now (s .entry)) r (readIssuer (now (s .entry)) c) ⌝ }
+{
+    let i = c.identifier(s);
+    let a = pass_anchors(i.next, s);
+    let issuer = i.value;
+    let carried = a.value;
+    let next = a.next;
+    let management = RegistryState::none();
+    EvidenceRead {
+        kind: 1,
+        issuer,
+        carried,
+        management,
+        next,
+    }
+}
+
+// Evidence 3, behind its byte: a registry state.
+fn read_backer_at(c: Cursor, s: &[u8]) -> EvidenceRead
+    ensures { λ r. ⌜ ReadAs (now (s .entry)) r (readBackerAt (now (s .entry)) c) ⌝ }
+{
+    let g = RegistryState::read(c, s);
+    let management = g.value;
+    let next = g.next;
+    EvidenceRead {
+        kind: 3,
+        issuer: Matter::none(),
+        carried: Part { from: 0, to: 0 },
+        management,
+        next,
+    }
+}
+
+pub fn read_evidence(c: Cursor, s: &[u8]) -> EvidenceRead
+    ensures { λ r. ⌜ ReadAs (now (s .entry)) r (readEvidence (now (s .entry)) c) ⌝ }
+{
+    let k = c.byte(s);
+    let kind = k.value;
+    if kind == 1 {
+        return read_issuer(k.next, s);
+    }
+    if kind == 3 {
+        return read_backer_at(k.next, s);
+    }
+    let next = k.next.expect_that((kind == 0) | (kind == 2));
+    let management = RegistryState::none();
+    EvidenceRead {
+        kind,
+        issuer: Matter::none(),
+        carried: Part { from: 0, to: 0 },
+        management,
+        next,
+    }
+}
+
+impl Attempt {
+    // Refused are bytes that break the layout or a limit, and bytes that go on behind section 10.
+    pub fn decode(s: &[u8]) -> DecodedAttempt
+        ensures { λ r. ⌜ viewDecoded (now (s .entry)) r ≡ decodeOf (now (s .entry)) ⌝ }
+    {
+        let e = read_event(Cursor::start(), s);
+        let o = read_sources(e.next, s);
+        let a = pass_anchors(o.next, s);
+        let g = pass_signatures(a.next, s);
+        let v = read_evidence(g.next.count(s, 1), s);
+        let end = v.next;
+        let event = e.value;
+        let source = o.source;
+        let anchor = a.value;
+        let signatures = g.value;
+        let issuer = v.issuer;
+        let carried = v.carried;
+        let management = v.management;
+        DecodedAttempt {
+            ok: end.ok & (end.at == s.len()),
+            attempt: Attempt {
+                event,
+                sources: o.count,
+                source,
+                anchor,
+                signatures,
+                evidence: v.kind,
+                issuer,
+                carried,
+                management,
+            },
+        }
     }
 }

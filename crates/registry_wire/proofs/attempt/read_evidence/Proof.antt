@@ -1,0 +1,54 @@
+use Rattle.registry_wire.proofs.AttemptLaws.{evidence-issuer, evidence-state, evidence-plain, plain-read}
+use borrow.Author.Needs.{needs}
+use Rattle.registry_wire.proofs.attempt.read_evidence.Statement.{statement}
+use Rattle.registry_wire.proofs.attempt.read_evidence.Tie as tie
+
+byte-requires : tie.Need-byte-requires
+byte-requires c κs = search needs
+
+read-issuer-requires : tie.Need-read-issuer-requires
+read-issuer-requires c κs = search needs
+
+returns : tie.Need-returns
+returns c =
+    let b1 = c .before in
+    rw (evidence-issuer _ _ _ (b1 .before .byte .ensures) (b1 .if1 .taken)) (c .read-issuer .ensures)
+
+read-backer-at-requires : tie.Need-read-backer-at-requires
+read-backer-at-requires c κs = search needs
+
+returns-2 : tie.Need-returns-2
+returns-2 c =
+    let b1 = c .before in
+    rw (evidence-state _ _ _ (b1 .before .before .byte .ensures) (b1 .if2 .taken)) (c .read-backer-at .ensures)
+
+expect-that-requires : tie.Need-expect-that-requires
+expect-that-requires c κs = search needs
+
+none-requires : tie.Need-none-requires
+none-requires c κs = search needs
+
+none-requires-2 : tie.Need-none-requires-2
+none-requires-2 c κs = search needs
+
+returns-3 : tie.Need-returns-3
+returns-3 c =
+    let b2 = c .before .before in
+    let b3 = b2 .before in
+    let n1 = b3 .before .if1 .left in
+    let n3 = b3 .if2 .left in
+    rw (evidence-plain _ _ _ (b3 .before .before .byte .ensures) n1 n3) (plain-read _ _ _ _ _ _ _ n1 n3 (b2 .expect-that .ensures))
+
+pub read-evidence-spec : {M : Type 1} → statement M
+read-evidence-spec =
+    tie.close
+    (tie.spec
+    byte-requires
+    read-issuer-requires
+    returns
+    read-backer-at-requires
+    returns-2
+    expect-that-requires
+    none-requires
+    none-requires-2
+    returns-3)
