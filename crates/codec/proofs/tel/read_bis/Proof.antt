@@ -1,5 +1,5 @@
-use Rattle.codec.specs.Events.{readBis}
 use borrow.Author.Needs.{needs}
+use Rattle.codec.specs.Events.{readBis}
 use Rattle.codec.proofs.tel.read_bis.Statement.{statement}
 use Rattle.codec.proofs.tel.read_bis.Tie as tie
 

@@ -1,5 +1,5 @@
-use Rattle.codec.specs.Events.{readBrv}
 use borrow.Author.Needs.{needs}
+use Rattle.codec.specs.Events.{readBrv}
 use Rattle.codec.proofs.tel.read_brv.Statement.{statement}
 use Rattle.codec.proofs.tel.read_brv.Tie as tie
 

@@ -1,5 +1,5 @@
-use Rattle.codec.specs.Events.{readIss}
 use borrow.Author.Needs.{needs}
+use Rattle.codec.specs.Events.{readIss}
 use Rattle.codec.proofs.tel.read_iss.Statement.{statement}
 use Rattle.codec.proofs.tel.read_iss.Tie as tie
 

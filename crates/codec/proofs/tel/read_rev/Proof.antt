@@ -1,5 +1,5 @@
-use Rattle.codec.specs.Events.{readRev}
 use borrow.Author.Needs.{needs}
+use Rattle.codec.specs.Events.{readRev}
 use Rattle.codec.proofs.tel.read_rev.Statement.{statement}
 use Rattle.codec.proofs.tel.read_rev.Tie as tie
 

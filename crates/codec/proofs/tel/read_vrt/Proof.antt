@@ -1,5 +1,5 @@
-use Rattle.codec.specs.Events.{readVrt}
 use borrow.Author.Needs.{needs}
+use Rattle.codec.specs.Events.{readVrt}
 use Rattle.codec.proofs.tel.read_vrt.Statement.{statement}
 use Rattle.codec.proofs.tel.read_vrt.Tie as tie
 
