@@ -27,7 +27,7 @@ count-more P Q (suc n) i l p q h =
           let e = count-same P Q n (λ k u. h k (omega arith) (λ w. omega arith)) in
           let p' : P n ≡ false = rw z at p in
           let q' : Q n ≡ true = rw z at q in
-          rw (p', q', e)
+          rw (p', q', e) (omega arith)
     ]
 
 pub count-none : (P : ℕ → Bool) (n : ℕ) → ((k : ℕ) → k < n → P k ≡ false) → count P n ≡ 0
