@@ -21,7 +21,6 @@ use Rattle.codec.specs.declared.section.ConfigsRead.{ConfigsRead}
 use Rattle.codec.specs.declared.section.PrefixesRead.{PrefixesRead}
 use Rattle.codec.specs.declared.section.ToadRead.{ToadRead}
 use Rattle.codec.specs.declared.section.SealRead.{SealRead}
-use Rattle.codec.specs.declared.tel.EventRead.{EventRead}
 use Rattle.codec.specs.Readers.{Read, Reader, need, readByte, readByteIf, readNumber, readIdentifier, readSaid, readPrefix, mapped, both, after, ended, section}
 
 -- a config byte is 1 to 6
@@ -138,6 +137,3 @@ viewToadRead r = record { value = r .value .0; next = r .next }
 
 abbrev pub viewSealRead : SealRead → Read Seal
 viewSealRead r = record { value = r .value; next = r .next }
-
-abbrev pub viewEventRead : EventRead → Read Event
-viewEventRead r = record { value = viewEvent (r .value); next = r .next }

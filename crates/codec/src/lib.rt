@@ -1,4 +1,3 @@
-// The bytes of an attempt's event: the kind byte and sections 1 to 6 (docs/RULES.md, "Bytes").
+// How the layouts are read: a cursor over lent bytes, and the sections that layouts are made of (docs/RULES.md, "Bytes").
 pub mod cursor;
 pub mod section;
-pub mod tel;

@@ -7,7 +7,7 @@ use cesr::primitive::Said;
 use codec::cursor::Cursor;
 use codec::section::count_up_to;
 use codec::section::pass_seals;
-use codec::tel::read_event;
+use codec_tel::tel::read_event;
 use events::tel::TelEvent;
 ghost use mathlib.Core.Path.{_≡_};
 ghost use Rattle.codec.specs.Readers.{section};

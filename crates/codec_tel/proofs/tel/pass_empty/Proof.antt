@@ -1,6 +1,6 @@
 use borrow.Author.Needs.{needs}
-use Rattle.codec.proofs.tel.pass_empty.Statement.{statement}
-use Rattle.codec.proofs.tel.pass_empty.Tie as tie
+use Rattle.codec_tel.proofs.tel.pass_empty.Statement.{statement}
+use Rattle.codec_tel.proofs.tel.pass_empty.Tie as tie
 
 count-requires : tie.Need-count-requires
 count-requires c κs = search needs

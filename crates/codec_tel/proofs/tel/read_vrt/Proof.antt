@@ -1,7 +1,7 @@
 use borrow.Author.Needs.{needs}
 use Rattle.codec.specs.Events.{readVrt}
-use Rattle.codec.proofs.tel.read_vrt.Statement.{statement}
-use Rattle.codec.proofs.tel.read_vrt.Tie as tie
+use Rattle.codec_tel.proofs.tel.read_vrt.Statement.{statement}
+use Rattle.codec_tel.proofs.tel.read_vrt.Tie as tie
 
 count-requires : tie.Need-count-requires
 count-requires c κs = search needs

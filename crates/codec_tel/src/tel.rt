@@ -1,12 +1,12 @@
 // An event: its kind byte, then six sections by kind (docs/RULES.md, "Bytes").
-use crate::cursor::Cursor;
-use crate::section::read_configs;
-use crate::section::read_prefixes;
-use crate::section::read_seal;
-use crate::section::read_toad;
 use cesr::number::Sn;
 use cesr::primitive::Matter;
 use cesr::primitive::Said;
+use codec::cursor::Cursor;
+use codec::section::read_configs;
+use codec::section::read_prefixes;
+use codec::section::read_seal;
+use codec::section::read_toad;
 use events::config::Configs;
 use events::member_set::Members;
 use events::seal::Seal;
@@ -14,8 +14,9 @@ use events::tel::Kind;
 use events::tel::TelEvent;
 use events::toad::Toad;
 ghost use mathlib.Core.Path.{_≡_};
 ghost use Rattle.codec.specs.Readers.{counted};
-ghost use Rattle.codec.specs.Events.{readVcp, readVrt, readIss, readRev, readBis, readBrv, readEvent, viewEventRead};
+ghost use Rattle.codec_tel.specs.EventReads.{viewEventRead};
+ghost use Rattle.codec.specs.Events.{readVcp, readVrt, readIss, readRev, readBis, readBrv, readEvent};
 
 pub struct EventRead {
     pub value: TelEvent,

@@ -1,7 +1,7 @@
 use borrow.Author.Needs.{needs}
-use Rattle.codec.specs.Events.{readRev}
-use Rattle.codec.proofs.tel.read_rev.Statement.{statement}
-use Rattle.codec.proofs.tel.read_rev.Tie as tie
+use Rattle.codec.specs.Events.{readIss}
+use Rattle.codec_tel.proofs.tel.read_iss.Statement.{statement}
+use Rattle.codec_tel.proofs.tel.read_iss.Tie as tie
 
 count-requires : tie.Need-count-requires
 count-requires c κs = search needs
@@ -14,9 +14,6 @@ said-requires-2 c κs = search needs
 
 said-requires-3 : tie.Need-said-requires-3
 said-requires-3 c κs = search needs
-
-said-requires-4 : tie.Need-said-requires-4
-said-requires-4 c κs = search needs
 
 pass-empty-requires : tie.Need-pass-empty-requires
 pass-empty-requires c κs = search needs
@@ -31,7 +28,7 @@ with-saids-requires : tie.Need-with-saids-requires
 with-saids-requires c κs = search needs
 
 returns : tie.Need-returns
-unfolding readRev
+unfolding readIss
 returns c =
     let b1 = c .before in
     let b2 = b1 .before in
@@ -40,13 +37,11 @@ returns c =
     let b5 = b4 .before in
     let b6 = b5 .before in
     let b7 = b6 .before in
-    let b8 = b7 .before in
     rw (
-      ← b8 .count .ensures,
-      ← b7 .said .ensures,
-      ← b6 .said2 .ensures,
-      ← b5 .said3 .ensures,
-      ← b4 .said4 .ensures,
+      ← b7 .count .ensures,
+      ← b6 .said .ensures,
+      ← b5 .said2 .ensures,
+      ← b4 .said3 .ensures,
       ← b3 .pass-empty .ensures,
       ← b2 .count2 .ensures,
       c .with-saids .ensures .0,
@@ -55,18 +50,16 @@ returns c =
       b1 .blank .ensures .1,
       c .with-saids .ensures .3,
       c .with-saids .ensures .4,
-      c .with-saids .ensures .5,
     )
 
-pub read-rev-spec : {M : Type 1} → statement M
-read-rev-spec =
+pub read-iss-spec : {M : Type 1} → statement M
+read-iss-spec =
     tie.close
     (tie.spec
     count-requires
     said-requires
     said-requires-2
     said-requires-3
-    said-requires-4
     pass-empty-requires
     count-requires-2
     blank-requires

@@ -1,8 +1,8 @@
 use borrow.Author.Tests.{ne-eqb}
 use borrow.Author.Needs.{needs}
 use Rattle.codec.specs.Events.{readKind, readEvent}
-use Rattle.codec.proofs.tel.read_event.Statement.{statement}
-use Rattle.codec.proofs.tel.read_event.Tie as tie
+use Rattle.codec_tel.proofs.tel.read_event.Statement.{statement}
+use Rattle.codec_tel.proofs.tel.read_event.Tie as tie
 
 byte-requires : tie.Need-byte-requires
 byte-requires c κs = search needs
