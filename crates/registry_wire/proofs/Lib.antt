@@ -1,4 +1,5 @@
 pub mod StateLoops
 pub mod AttemptLaws
+pub mod AnchorLaws
 pub mod CodesState
 pub mod CodesAttempt
