@@ -4,8 +4,8 @@
 --     event-head       prefix, sn and said are read where they stand
 --     chosen-events    what is chosen of two events in bytes is what is chosen of the events
 --     chosen-section   and its seals are those that are read
-use Prim.Native.Nat.{ℕ, suc, _+_, _<_}
-use mathlib.Core.Path.{_≡_, refl, ap, sym, subst, _∙_}
+use Prim.Native.Nat.{ℕ, _+_, _<_}
+use mathlib.Core.Path.{_≡_, refl, ap, subst}
 use mathlib.Core.List.{List, [], _∷_, _++_, append-assoc, append-nil}
 use mathlib.Core.Bool.{Bool, true, false, cond, _&&_}
 use native.Mathlib.Omega.{arith}
@@ -23,7 +23,6 @@ use Rattle.cesr.specs.declared.primitive.Matter.{Matter}
 use Rattle.cesr.specs.declared.primitive.Said.{Said}
 use Rattle.cesr.proofs.Matters.{length-matter}
 use Rattle.events.specs.declared.seal.Seal.{Seal}
-use Rattle.codec.specs.declared.cursor.Cursor.{Cursor}
 use Rattle.codec.specs.Readers.{Read, starting, stopped, advanced, need, readByte, readByteIf, readNumber, readIf, readIdentifier, readSaid, counted}
 use Rattle.codec.specs.Events.{readEventSeal, readOtherSeal, readSeal}
 use Rattle.codec.specs.Layout.{joined, sectionBytes, all, saidBytes, sealBytes, goodIdentifier, goodSn, goodSaid, goodSeal}

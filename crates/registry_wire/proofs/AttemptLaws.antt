@@ -7,7 +7,7 @@
 --     decode-read                   the parts, put together
 use Prim.Native.Nat.{ℕ, zero, suc, _+_, _-_, _≤_, _<_}
 use mathlib.Core.Path.{_≡_, refl, ap, sym, subst, _∙_}
-use mathlib.Core.List.{List, [], _∷_, _++_}
+use mathlib.Core.List.{List, [], _∷_}
 use mathlib.Core.Bool.{Bool, true, false, cond, _&&_, _||_}
 use native.Mathlib.Omega.{arith}
 use borrow.Author.Tests.{eq-eqb, ne-eqb}
@@ -26,8 +26,8 @@ use Rattle.codec.proofs.Loops.{count-within}
 use Rattle.codec.proofs.Codes.{codes-after}
 use Rattle.codec.proofs.CodesList.{codes-times, codes-section}
 use Rattle.registry_wire.specs.States.{readRegistry, viewRegistryRead}
-use Rattle.registry_wire.specs.Attempts.{Anchor, Evidence, Decoded, placed, anchorBytes, signatureBytes, goodAnchor, goodSignature, readSource, readAnchor, readAnchors, readSignature, readIssuer, readBackerAt, readEvidence, readMessage, decodeOf, anchorsIn, signaturesIn, evidenceAs, partOf, Holds, ReadAs, passedAnchors, passedSignatures}
-use Rattle.registry_wire.specs.Attempts.Evidence.{missing, issuer, backer, backerAt}
+use Rattle.registry_wire.specs.Attempts.{Anchor, Decoded, placed, anchorBytes, signatureBytes, goodAnchor, goodSignature, readSource, readAnchor, readAnchors, readSignature, readIssuer, readBackerAt, readEvidence, readMessage, decodeOf, anchorsIn, signaturesIn, evidenceAs, partOf, Holds, ReadAs, passedAnchors, passedSignatures}
+use Rattle.registry_wire.specs.Attempts.Evidence.{missing, issuer, backer}
 use Rattle.registry_wire.specs.Attempts.Decoded.{malformed, decoded}
 use Rattle.registry_wire.specs.declared.state.RegistryState.{RegistryState}
 use Rattle.registry_wire.specs.declared.state.RegistryRead.{RegistryRead}
