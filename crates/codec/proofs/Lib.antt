@@ -4,3 +4,5 @@ pub mod Codes
 pub mod CodesList
 pub mod CodesSeal
 pub mod CodesEvent
+pub mod CodesRound
+pub mod CodesPlain

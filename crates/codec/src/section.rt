@@ -36,7 +36,7 @@ pub struct SealRead {
     pub next: Cursor,
 }
 
-// The count byte of a section of at most limit elements. It counts none where it is above the limit or not there.
+// The count byte of a section of at most limit elements. Where it is not there or above the limit, it counts none.
 pub fn count_up_to(c: Cursor, s: &[u8], limit: u8) -> CountRead
     ensures { λ r. ⌜ viewCountRead r ≡ countUpTo limit (now (s .entry)) c ⌝ }
 {

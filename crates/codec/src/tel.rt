@@ -17,13 +17,12 @@ ghost use mathlib.Core.Path.{_≡_};
 ghost use Rattle.codec.specs.Readers.{counted};
 ghost use Rattle.codec.specs.Events.{readVcp, readVrt, readIss, readRev, readBis, readBrv, readEvent, viewEventRead};
 
-// What the fields hold is an event only where the cursor has not stopped.
 pub struct EventRead {
     pub value: TelEvent,
     pub next: Cursor,
 }
 
-// An event whose other fields are blank. The seal is a blank one too where the kind carries none.
+// An event with its other fields blank. A kind that carries no seal has Digest there.
 fn blank(kind: Kind, said: Said, seal: Seal) -> TelEvent
     ensures { λ r. ⌜ (r .kind ≡ kind) × (r .said ≡ said) × (r .seal ≡ seal) ⌝ }
 {
@@ -47,6 +46,15 @@ fn blank(kind: Kind, said: Said, seal: Seal) -> TelEvent
     }
 }
 
+fn with_saids(mut e: TelEvent, credential: Said, registry: Said, prior: Said) -> TelEvent
+    ensures { λ r. ⌜ (r .kind ≡ e .kind) × (r .said ≡ e .said) × (r .seal ≡ e .seal) × (r .credential ≡ credential) × (r .registry ≡ registry) × (r .prior ≡ prior) ⌝ }
+{
+    e.credential = credential;
+    e.registry = registry;
+    e.prior = prior;
+    e
+}
+
 // Behind sections 2 to 5 with no elements.
 fn pass_empty(c: Cursor, s: &[u8]) -> Cursor
     ensures { λ r. ⌜ r ≡ counted 0 (now (s .entry)) (counted 0 (now (s .entry)) (counted 0 (now (s .entry)) (counted 0 (now (s .entry)) c))) ⌝ }
@@ -57,20 +65,20 @@ fn pass_empty(c: Cursor, s: &[u8]) -> Cursor
 fn read_vcp(c: Cursor, s: &[u8]) -> EventRead
     ensures { λ r. ⌜ viewEventRead r ≡ readVcp (now (s .entry)) c ⌝ }
 {
-    let d = c.count(s, 2).said(s);
-    let i = d.next.identifier(s);
-    let t = read_toad(i.next.count(s, 1), s);
-    let f = read_configs(t.next, s);
-    let b = read_prefixes(f.next, s);
-    let next = b.next.count(s, 0).count(s, 0);
-    let mut value = blank(Kind::Vcp, d.value, Seal::Digest);
-    let issuer = i.value;
+    let vcp = c.count(s, 2).said(s);
+    let issuer = vcp.next.identifier(s);
+    let toad = read_toad(issuer.next.count(s, 1), s);
+    let configs = read_configs(toad.next, s);
+    let backers = read_prefixes(configs.next, s);
+    let next = backers.next.count(s, 0).count(s, 0);
+    let mut value = blank(Kind::Vcp, vcp.value, Seal::Digest);
+    let issuer = issuer.value;
+    let toad = toad.value;
+    let configs = configs.value;
+    let backers = backers.value;
     value.issuer = issuer;
-    let toad = t.value;
     value.toad = toad;
-    let configs = f.value;
     value.configs = configs;
-    let backers = b.value;
     value.backers = backers;
     EventRead { value, next }
 }
@@ -78,26 +86,23 @@ fn read_vcp(c: Cursor, s: &[u8]) -> EventRead
 fn read_vrt(c: Cursor, s: &[u8]) -> EventRead
     ensures { λ r. ⌜ viewEventRead r ≡ readVrt (now (s .entry)) c ⌝ }
 {
-    let d = c.count(s, 3).said(s);
-    let g = d.next.said(s);
-    let p = g.next.said(s);
-    let n = p.next.count(s, 2).sn(s);
-    let t = read_toad(n.next, s);
-    let b = read_prefixes(t.next.count(s, 0), s);
-    let a = read_prefixes(b.next, s);
-    let next = a.next.count(s, 0);
-    let mut value = blank(Kind::Vrt, d.value, Seal::Digest);
-    let registry = g.value;
-    value.registry = registry;
-    let prior = p.value;
-    value.prior = prior;
-    let sn = n.value;
+    let vrt = c.count(s, 3).said(s);
+    let registry = vrt.next.said(s);
+    let prior = registry.next.said(s);
+    let sn = prior.next.count(s, 2).sn(s);
+    let toad = read_toad(sn.next, s);
+    let cuts = read_prefixes(toad.next.count(s, 0), s);
+    let additions = read_prefixes(cuts.next, s);
+    let next = additions.next.count(s, 0);
+    let e = blank(Kind::Vrt, vrt.value, Seal::Digest);
+    let mut value = with_saids(e, e.credential, registry.value, prior.value);
+    let sn = sn.value;
+    let toad = toad.value;
+    let cuts = cuts.value;
+    let additions = additions.value;
     value.sn = sn;
-    let toad = t.value;
     value.toad = toad;
-    let cuts = b.value;
     value.backers = cuts;
-    let additions = a.value;
     value.additions = additions;
     EventRead { value, next }
 }
@@ -105,67 +110,53 @@ fn read_vrt(c: Cursor, s: &[u8]) -> EventRead
 fn read_iss(c: Cursor, s: &[u8]) -> EventRead
     ensures { λ r. ⌜ viewEventRead r ≡ readIss (now (s .entry)) c ⌝ }
 {
-    let d = c.count(s, 3).said(s);
-    let v = d.next.said(s);
-    let g = v.next.said(s);
-    let next = pass_empty(g.next, s).count(s, 0);
-    let mut value = blank(Kind::Iss, d.value, Seal::Digest);
-    let credential = v.value;
-    value.credential = credential;
-    let registry = g.value;
-    value.registry = registry;
+    let iss = c.count(s, 3).said(s);
+    let credential = iss.next.said(s);
+    let registry = credential.next.said(s);
+    let next = pass_empty(registry.next, s).count(s, 0);
+    let e = blank(Kind::Iss, iss.value, Seal::Digest);
+    let value = with_saids(e, credential.value, registry.value, e.prior);
     EventRead { value, next }
 }
 
 fn read_rev(c: Cursor, s: &[u8]) -> EventRead
     ensures { λ r. ⌜ viewEventRead r ≡ readRev (now (s .entry)) c ⌝ }
 {
-    let d = c.count(s, 4).said(s);
-    let v = d.next.said(s);
-    let g = v.next.said(s);
-    let p = g.next.said(s);
-    let next = pass_empty(p.next, s).count(s, 0);
-    let mut value = blank(Kind::Rev, d.value, Seal::Digest);
-    let credential = v.value;
-    value.credential = credential;
-    let registry = g.value;
-    value.registry = registry;
-    let prior = p.value;
-    value.prior = prior;
+    let rev = c.count(s, 4).said(s);
+    let credential = rev.next.said(s);
+    let registry = credential.next.said(s);
+    let prior = registry.next.said(s);
+    let next = pass_empty(prior.next, s).count(s, 0);
+    let e = blank(Kind::Rev, rev.value, Seal::Digest);
+    let value = with_saids(e, credential.value, registry.value, prior.value);
     EventRead { value, next }
 }
 
 fn read_bis(c: Cursor, s: &[u8]) -> EventRead
     ensures { λ r. ⌜ viewEventRead r ≡ readBis (now (s .entry)) c ⌝ }
 {
-    let d = c.count(s, 3).said(s);
-    let v = d.next.said(s);
-    let g = v.next.said(s);
-    let l = read_seal(pass_empty(g.next, s).count(s, 1), s);
-    let next = l.next;
-    let seal = l.value;
-    let mut value = blank(Kind::Bis, d.value, seal);
-    let credential = v.value;
-    value.credential = credential;
-    let registry = g.value;
-    value.registry = registry;
+    let bis = c.count(s, 3).said(s);
+    let credential = bis.next.said(s);
+    let registry = credential.next.said(s);
+    let own = read_seal(pass_empty(registry.next, s).count(s, 1), s);
+    let seal = own.value;
+    let next = own.next;
+    let e = blank(Kind::Bis, bis.value, seal);
+    let value = with_saids(e, credential.value, registry.value, e.prior);
     EventRead { value, next }
 }
 
 fn read_brv(c: Cursor, s: &[u8]) -> EventRead
     ensures { λ r. ⌜ viewEventRead r ≡ readBrv (now (s .entry)) c ⌝ }
 {
-    let d = c.count(s, 3).said(s);
-    let v = d.next.said(s);
-    let p = v.next.said(s);
-    let l = read_seal(pass_empty(p.next, s).count(s, 1), s);
-    let next = l.next;
-    let seal = l.value;
-    let mut value = blank(Kind::Brv, d.value, seal);
-    let credential = v.value;
-    value.credential = credential;
-    let prior = p.value;
-    value.prior = prior;
+    let brv = c.count(s, 3).said(s);
+    let credential = brv.next.said(s);
+    let prior = credential.next.said(s);
+    let own = read_seal(pass_empty(prior.next, s).count(s, 1), s);
+    let seal = own.value;
+    let next = own.next;
+    let e = blank(Kind::Brv, brv.value, seal);
+    let value = with_saids(e, credential.value, e.registry, prior.value);
     EventRead { value, next }
 }
 

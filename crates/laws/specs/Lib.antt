@@ -1,4 +1,5 @@
 pub mod Number
 pub mod Room
 pub mod First
+pub mod Count
 pub mod Words

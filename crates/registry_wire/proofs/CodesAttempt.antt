@@ -28,6 +28,8 @@ use Rattle.codec.proofs.Codes.{Told, Codes, and-true, led, leads, shift, mapped
 use Rattle.codec.proofs.CodesList.{codes-section}
 use Rattle.codec.proofs.CodesSeal.{codes-byte-test, codes-seal}
 use Rattle.codec.proofs.CodesEvent.{codes-event}
+use Rattle.codec.proofs.CodesPlain.{plain, plain-told}
+use Rattle.codec.proofs.CodesRound.{whole-sound, whole-complete}
 use Rattle.registry_wire.specs.States.{Registry, registryBytes, goodRegistry, readRegistry}
 use Rattle.registry_wire.specs.Attempts.{Anchor, Signature, Evidence, Message, Decoded, sourceBytes, anchorBytes, signatureBytes, evidenceBytes, attemptBytes, goodSource, goodAnchor, goodAnchors, goodSignature, goodEvidence, goodMessage, sourceOf, readSource, readSeals, anchorOf, readAnchor, readAnchors, signatureOf, readSignature, issuerOf, readIssuer, readBackerAt, readEvidence, messageOf, readMessage, decodeOf}
 use Rattle.registry_wire.specs.Attempts.Evidence.{missing, issuer, backer, backerAt}
@@ -78,10 +80,6 @@ evidenceTail (backerAt state) = registryBytes state
 codes-issuer : Codes (both readIdentifier readAnchors) (λ t. matterBytes (t .0) ++ sectionBytes anchorBytes (t .1)) (λ t. goodIdentifier (t .0) && goodAnchors (t .1))
 codes-issuer = codes-both codes-identifier codes-anchors
 
-or-first : (x y : Bool) → y ≡ false → (x || y) ≡ true → x ≡ true
-or-first true y f g = refl
-or-first false y f g = sym f ∙ g
-
 module _ (s : List ℕ) (b : Bytes s) where
   issuer-told : (d : Cursor) → readIssuer s d .next .ok ≡ true → Told evidenceTail goodEvidence s d (readIssuer s d)
   unfolding readIssuer
@@ -90,18 +88,6 @@ module _ (s : List ℕ) (b : Bytes s) where
   state-told : (d : Cursor) → readBackerAt s d .next .ok ≡ true → Told evidenceTail goodEvidence s d (readBackerAt s d)
   unfolding readBackerAt
   state-told d h = let t = codes-registry .sound s d b h in record { ok = t .ok; stands = t .stands; next = t .next; limits = t .limits }
-
-  -- evidence that is its byte alone: 0 or 2
-  plain-told : (c : Cursor) (k : ℕ) → readByte s c .value ≡ k → need (readByte s c .next) (eqb k 0 || eqb k 2) .ok ≡ true → Told evidenceBytes goodEvidence s c (record { value = cond (eqb k 2) backer missing; next = need (readByte s c .next) (eqb k 0 || eqb k 2) })
-  plain-told c k e h = go (eqb k 2) refl (passed (readByte s c .next) (eqb k 0 || eqb k 2) h)
-    where
-      go : (t : Bool) → eqb k 2 ≡ t → Passed (readByte s c .next) (eqb k 0 || eqb k 2) → Told evidenceBytes goodEvidence s c (record { value = cond t backer missing; next = need (readByte s c .next) (eqb k 0 || eqb k 2) })
-      go true q w =
-          let t = codes-byte .sound s c b (w .ok) in
-          record { ok = t .ok; stands = subst (λ (x : ℕ). Stands s (c .at) (x ∷ [])) (e ∙ eqb-true k 2 q) (t .stands); next = w .stays ∙ t .next; limits = refl }
-      go false q w =
-          let t = codes-byte .sound s c b (w .ok) in
-          record { ok = t .ok; stands = subst (λ (x : ℕ). Stands s (c .at) (x ∷ [])) (e ∙ eqb-true k 0 (or-first (eqb k 0) (eqb k 2) q (w .test))) (t .stands); next = w .stays ∙ t .next; limits = refl }
 
   evidence-sound : (c : Cursor) → readEvidence s c .next .ok ≡ true → Told evidenceBytes goodEvidence s c (readEvidence s c)
   unfolding readEvidence readIssuer readBackerAt
@@ -113,14 +99,11 @@ module _ (s : List ℕ) (b : Bytes s) where
       d : Cursor
       d = readByte s c .next
 
-      plain : Read Evidence
-      plain = record { value = cond (eqb k 2) backer missing; next = need d (eqb k 0 || eqb k 2) }
-
-      three : (t : Bool) → eqb k 3 ≡ t → cond t (readBackerAt s d) plain .next .ok ≡ true → Told evidenceBytes goodEvidence s c (cond t (readBackerAt s d) plain)
+      three : (t : Bool) → eqb k 3 ≡ t → cond t (readBackerAt s d) (plain missing backer k d) .next .ok ≡ true → Told evidenceBytes goodEvidence s c (cond t (readBackerAt s d) (plain missing backer k d))
       three true e h = led evidenceBytes 3 s c (readBackerAt s d) b (eqb-true k 3 e) refl (state-told d h)
-      three false e h = plain-told c k refl h
+      three false e h = plain-told missing backer evidenceBytes goodEvidence refl refl refl refl s c b h
 
-      go : (t : Bool) → eqb k 1 ≡ t → cond t (readIssuer s d) (cond (eqb k 3) (readBackerAt s d) plain) .next .ok ≡ true → Told evidenceBytes goodEvidence s c (cond t (readIssuer s d) (cond (eqb k 3) (readBackerAt s d) plain))
+      go : (t : Bool) → eqb k 1 ≡ t → cond t (readIssuer s d) (cond (eqb k 3) (readBackerAt s d) (plain missing backer k d)) .next .ok ≡ true → Told evidenceBytes goodEvidence s c (cond t (readIssuer s d) (cond (eqb k 3) (readBackerAt s d) (plain missing backer k d)))
       go true e h = led evidenceBytes 1 s c (readIssuer s d) b (eqb-true k 1 e) refl (issuer-told d h)
       go false e h = three (eqb k 3) refl h
 
@@ -171,33 +154,22 @@ codes-message =
     (codes-both (codes-section readSource sourceBytes goodSource codes-source 1 (lit< tt))
     (codes-both codes-anchors (codes-both (codes-section readSignature signatureBytes goodSignature codes-signature 64 (lit< tt)) codes-last))))
 
--- an attempt that was decoded is no malformed one
-decoded-apart : (a : Message) → malformed ≡ decoded a → ⊥
-decoded-apart a e = let z : _≡_ {A = ℕ} 0 1 = cc in omega arith
-
-decoded-same : (a b : Message) → decoded a ≡ decoded b → a ≡ b
-decoded-same a b e = cc
+-- an attempt that was decoded is no malformed one, and is the one that was read
+decoded-only : (t : Bool) (x a : Message) → cond t (decoded x) malformed ≡ decoded a → (t ≡ true) × (x ≡ a)
+decoded-only true x a e = (refl, (cc))
+decoded-only false x a e = absurd (let z : _≡_ {A = ℕ} 0 1 = cc in omega arith)
 
 accepts : (s : List ℕ) (a : Message) → Bytes s → decodeOf s ≡ decoded a → (s ≡ attemptBytes a) × (goodMessage a ≡ true)
 unfolding decodeOf
-accepts s a b e = go (readMessage s starting .next .ok && eqb (readMessage s starting .next .at) (length s)) refl e
-  where
-    go : (t : Bool) → (readMessage s starting .next .ok && eqb (readMessage s starting .next .at) (length s)) ≡ t → cond t (decoded (readMessage s starting .value)) malformed ≡ decoded a → (s ≡ attemptBytes a) × (goodMessage a ≡ true)
-    go true h e =
-        let r = readMessage s starting in
-        let t = codes-message .sound s starting b (and-left (r .next .ok) (eqb (r .next .at) (length s)) h) in
-        let n : r .next .at ≡ length s = eqb-true (r .next .at) (length s) (and-right (r .next .ok) (eqb (r .next .at) (length s)) h) in
-        let m : 0 + length (attemptBytes (r .value)) ≡ length s = sym (ap (λ (d : Cursor). d .at) (t .next)) ∙ n in
-        let q : r .value ≡ a = decoded-same (r .value) a e in
-        (stands-whole s (attemptBytes (r .value)) (t .stands) (sym (zero-add (length (attemptBytes (r .value)))) ∙ m) ∙ ap attemptBytes q, ap goodMessage (sym q) ∙ t .limits)
-    go false h e = absurd (decoded-apart a e)
+accepts s a b e =
+    let r = readMessage s starting in
+    let d = decoded-only (r .next .ok && eqb (r .next .at) (length s)) (r .value) a e in
+    let w = whole-sound codes-message s b (d .0) in
+    (w .0 ∙ ap attemptBytes (d .1), ap goodMessage (sym (d .1)) ∙ w .1)
 
 decodes-back : (s : List ℕ) (a : Message) → s ≡ attemptBytes a → goodMessage a ≡ true → decodeOf s ≡ decoded a
 unfolding decodeOf
-decodes-back s a e g =
-    let k = codes-message .complete s starting a refl (subst (λ (l : List ℕ). Stands s 0 l) e (whole-stands s)) g in
-    let n : eqb (0 + length (attemptBytes a)) (length s) ≡ true = eq-eqb (0 + length (attemptBytes a)) (length s) (zero-add (length (attemptBytes a)) ∙ ap length (sym e)) in
-    rw (k, n)
+decodes-back s a e g = let w = whole-complete codes-message s a e g in rw (w .0, w .1)
 
 -- the decoder accepts bytes as an attempt exactly when they are its layout and it is within the limits
 pub decodes : (s : List ℕ) (a : Message) → Bytes s → (decodeOf s ≡ decoded a) ↔ ((s ≡ attemptBytes a) × (goodMessage a ≡ true))

@@ -3,3 +3,5 @@ pub mod AttemptLaws
 pub mod AnchorLaws
 pub mod CodesState
 pub mod CodesAttempt
+pub mod CodesStatus
+pub mod OnlySeal

@@ -15,7 +15,7 @@ use Rattle.events.specs.Configs.{viewConfigs}
 use Rattle.events.specs.Members.{view}
 use Rattle.codec.specs.Readers.{Read, Reader, starting, need, isIdentifier, readByte, readNumber, readQuad, readIdentifier, readSaid, mapped, both, section}
 use Rattle.codec.specs.Events.{isConfig, readConfigs, readPrefixes}
-use Rattle.codec.specs.Layout.{sectionBytes, all, saidBytes, prefixBytes, byteBytes, goodSaid, goodIdentifier, goodSn, goodToad, goodConfigs, goodPrefixes}
+use Rattle.codec.specs.Layout.{sectionBytes, all, saidBytes, prefixBytes, byteBytes, isMatter, goodSaid, goodIdentifier, goodSn, goodToad, goodConfigs, goodPrefixes}
 use Rattle.registry_wire.specs.declared.state.RegistryState.{RegistryState}
 use Rattle.registry_wire.specs.declared.state.CredentialState.{CredentialState}
 use Rattle.registry_wire.specs.declared.state.RegistryRead.{RegistryRead}
@@ -96,6 +96,16 @@ wellRegistry g =
 
 unfoldable pub wellCredential : CredentialState → Bool
 wellCredential w = isSaid (w .registry .0) && (isSaid (w .credential .0) && isSaid (w .head .0))
+
+-- its words are words of 64 bits and its toad one of 32: so of every state that code can hold
+unfoldable pub rangedRegistry : RegistryState → Bool
+rangedRegistry g =
+    isMatter (g .id .0)
+    && (isMatter (g .issuer)
+    && (goodSn (g .sn) && (isMatter (g .latest .0) && (goodToad (g .toad .0) && all (λ p. isMatter (p .0)) (view (g .backers))))))
+
+unfoldable pub rangedCredential : CredentialState → Bool
+rangedCredential w = isMatter (w .registry .0) && (isMatter (w .credential .0) && (goodSn (w .sn) && isMatter (w .head .0)))
 
 -- what a credential state is, and what a registry state begins with: two primitives, a number, a primitive
 unfoldable pub headBytes : Matter → Matter → Sn → Matter → List ℕ

@@ -126,7 +126,7 @@ fn read_source(c: Cursor, s: &[u8]) -> SourceRead
 }
 
 // Section 7: at most one source.
-pub fn read_sources(c: Cursor, s: &[u8]) -> SourcesRead
+fn read_sources(c: Cursor, s: &[u8]) -> SourcesRead
     ensures { λ r. ⌜ viewSources r ≡ section 1 readSource (now (s .entry)) c ⌝ }
 {
     let n = count_up_to(c, s, 1);
@@ -160,7 +160,7 @@ fn pass_anchor(c: Cursor, s: &[u8]) -> Cursor
 }
 
 // Behind a section of at most one anchoring event. It stays in the bytes; its part is empty where there is none.
-pub fn pass_anchors(c: Cursor, s: &[u8]) -> AnchorsRead
+fn pass_anchors(c: Cursor, s: &[u8]) -> AnchorsRead
     ensures { λ r. ⌜ r ≡ passedAnchors (now (s .entry)) c ⌝ }
 {
     let n = count_up_to(c, s, 1);
@@ -214,7 +214,7 @@ fn read_backer_at(c: Cursor, s: &[u8]) -> EvidenceRead
     }
 }
 
-pub fn read_evidence(c: Cursor, s: &[u8]) -> EvidenceRead
+fn read_evidence(c: Cursor, s: &[u8]) -> EvidenceRead
     ensures { λ r. ⌜ ReadAs (now (s .entry)) r (readEvidence (now (s .entry)) c) ⌝ }
 {
     let k = c.byte(s);

@@ -1,5 +1,5 @@
-use Rattle.codec.specs.Events.{readEventSeal}
 use borrow.Author.Needs.{needs}
+use Rattle.codec.specs.Events.{readEventSeal}
 use Rattle.codec.proofs.section.read_event_seal.Statement.{statement}
 use Rattle.codec.proofs.section.read_event_seal.Tie as tie
 

@@ -1,6 +1,6 @@
 use borrow.Author.Tests.{eq-eqb, ne-eqb}
-use Rattle.codec.specs.Events.{readSeal}
 use borrow.Author.Needs.{needs}
+use Rattle.codec.specs.Events.{readSeal}
 use Rattle.codec.proofs.section.read_seal.Statement.{statement}
 use Rattle.codec.proofs.section.read_seal.Tie as tie
 

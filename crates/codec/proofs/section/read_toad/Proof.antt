@@ -1,6 +1,6 @@
+use borrow.Author.Needs.{needs}
 use Rattle.cesr.specs.Numbers.{value}
 use Rattle.codec.specs.Events.{readToad}
-use borrow.Author.Needs.{needs}
 use Rattle.codec.proofs.section.read_toad.Statement.{statement}
 use Rattle.codec.proofs.section.read_toad.Tie as tie
 

@@ -1,5 +1,5 @@
-use Rattle.codec.specs.Events.{readBrv}
 use borrow.Author.Needs.{needs}
+use Rattle.codec.specs.Events.{readBrv}
 use Rattle.codec.proofs.tel.read_brv.Statement.{statement}
 use Rattle.codec.proofs.tel.read_brv.Tie as tie
 
@@ -27,28 +27,36 @@ read-seal-requires c κs = search needs
 blank-requires : tie.Need-blank-requires
 blank-requires c κs = search needs
 
+with-saids-requires : tie.Need-with-saids-requires
+with-saids-requires c κs = search needs
+
 returns : tie.Need-returns
 unfolding readBrv
 returns c =
-    let b2 = c .before .before in
-    let b4 = b2 .before .before in
+    let b1 = c .before in
+    let b3 = b1 .before .before in
+    let b4 = b3 .before in
     let b5 = b4 .before in
     let b6 = b5 .before in
     let b7 = b6 .before in
     let b8 = b7 .before in
     let b9 = b8 .before in
-    let b10 = b9 .before in
     rw (
-      ← b10 .count .ensures,
-      ← b9 .said .ensures,
-      ← b8 .said2 .ensures,
-      ← b7 .said3 .ensures,
-      ← b6 .pass-empty .ensures,
-      ← b5 .count2 .ensures,
-      ← b4 .read-seal .ensures,
-      b2 .blank .ensures .0,
-      b2 .blank .ensures .1,
-      b2 .blank .ensures .2,
+      ← b9 .count .ensures,
+      ← b8 .said .ensures,
+      ← b7 .said2 .ensures,
+      ← b6 .said3 .ensures,
+      ← b5 .pass-empty .ensures,
+      ← b4 .count2 .ensures,
+      ← b3 .read-seal .ensures,
+      c .with-saids .ensures .0,
+      b1 .blank .ensures .0,
+      c .with-saids .ensures .1,
+      b1 .blank .ensures .1,
+      c .with-saids .ensures .3,
+      c .with-saids .ensures .5,
+      c .with-saids .ensures .2,
+      b1 .blank .ensures .2,
     )
 
 pub read-brv-spec : {M : Type 1} → statement M
@@ -63,4 +71,5 @@ read-brv-spec =
     count-requires-2
     read-seal-requires
     blank-requires
+    with-saids-requires
     returns)

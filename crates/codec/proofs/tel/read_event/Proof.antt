@@ -1,6 +1,6 @@
 use borrow.Author.Tests.{ne-eqb}
-use Rattle.codec.specs.Events.{readKind, readEvent}
 use borrow.Author.Needs.{needs}
+use Rattle.codec.specs.Events.{readKind, readEvent}
 use Rattle.codec.proofs.tel.read_event.Statement.{statement}
 use Rattle.codec.proofs.tel.read_event.Tie as tie
 

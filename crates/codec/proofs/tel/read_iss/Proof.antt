@@ -1,5 +1,5 @@
-use Rattle.codec.specs.Events.{readIss}
 use borrow.Author.Needs.{needs}
+use Rattle.codec.specs.Events.{readIss}
 use Rattle.codec.proofs.tel.read_iss.Statement.{statement}
 use Rattle.codec.proofs.tel.read_iss.Tie as tie
 
@@ -24,25 +24,32 @@ count-requires-2 c κs = search needs
 blank-requires : tie.Need-blank-requires
 blank-requires c κs = search needs
 
+with-saids-requires : tie.Need-with-saids-requires
+with-saids-requires c κs = search needs
+
 returns : tie.Need-returns
 unfolding readIss
 returns c =
-    let b2 = c .before .before in
+    let b1 = c .before in
+    let b2 = b1 .before in
     let b3 = b2 .before in
     let b4 = b3 .before in
     let b5 = b4 .before in
     let b6 = b5 .before in
     let b7 = b6 .before in
-    let b8 = b7 .before in
     rw (
-      ← b8 .count .ensures,
-      ← b7 .said .ensures,
-      ← b6 .said2 .ensures,
-      ← b5 .said3 .ensures,
-      ← b4 .pass-empty .ensures,
-      ← b3 .count2 .ensures,
-      b2 .blank .ensures .0,
-      b2 .blank .ensures .1,
+      ← b7 .count .ensures,
+      ← b6 .said .ensures,
+      ← b5 .said2 .ensures,
+      ← b4 .said3 .ensures,
+      ← b3 .pass-empty .ensures,
+      ← b2 .count2 .ensures,
+      c .with-saids .ensures .0,
+      b1 .blank .ensures .0,
+      c .with-saids .ensures .1,
+      b1 .blank .ensures .1,
+      c .with-saids .ensures .3,
+      c .with-saids .ensures .4,
     )
 
 pub read-iss-spec : {M : Type 1} → statement M
@@ -56,4 +63,5 @@ read-iss-spec =
     pass-empty-requires
     count-requires-2
     blank-requires
+    with-saids-requires
     returns)

@@ -1,5 +1,5 @@
-use Rattle.codec.specs.Events.{readRev}
 use borrow.Author.Needs.{needs}
+use Rattle.codec.specs.Events.{readRev}
 use Rattle.codec.proofs.tel.read_rev.Statement.{statement}
 use Rattle.codec.proofs.tel.read_rev.Tie as tie
 
@@ -27,27 +27,35 @@ count-requires-2 c κs = search needs
 blank-requires : tie.Need-blank-requires
 blank-requires c κs = search needs
 
+with-saids-requires : tie.Need-with-saids-requires
+with-saids-requires c κs = search needs
+
 returns : tie.Need-returns
 unfolding readRev
 returns c =
-    let b3 = c .before .before .before in
+    let b1 = c .before in
+    let b2 = b1 .before in
+    let b3 = b2 .before in
     let b4 = b3 .before in
     let b5 = b4 .before in
     let b6 = b5 .before in
     let b7 = b6 .before in
     let b8 = b7 .before in
-    let b9 = b8 .before in
-    let b10 = b9 .before in
     rw (
-      ← b10 .count .ensures,
-      ← b9 .said .ensures,
-      ← b8 .said2 .ensures,
-      ← b7 .said3 .ensures,
-      ← b6 .said4 .ensures,
-      ← b5 .pass-empty .ensures,
-      ← b4 .count2 .ensures,
-      b3 .blank .ensures .0,
-      b3 .blank .ensures .1,
+      ← b8 .count .ensures,
+      ← b7 .said .ensures,
+      ← b6 .said2 .ensures,
+      ← b5 .said3 .ensures,
+      ← b4 .said4 .ensures,
+      ← b3 .pass-empty .ensures,
+      ← b2 .count2 .ensures,
+      c .with-saids .ensures .0,
+      b1 .blank .ensures .0,
+      c .with-saids .ensures .1,
+      b1 .blank .ensures .1,
+      c .with-saids .ensures .3,
+      c .with-saids .ensures .4,
+      c .with-saids .ensures .5,
     )
 
 pub read-rev-spec : {M : Type 1} → statement M
@@ -62,4 +70,5 @@ read-rev-spec =
     pass-empty-requires
     count-requires-2
     blank-requires
+    with-saids-requires
     returns)

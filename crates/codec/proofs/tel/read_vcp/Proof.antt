@@ -1,5 +1,5 @@
-use Rattle.codec.specs.Events.{readVcp}
 use borrow.Author.Needs.{needs}
+use Rattle.codec.specs.Events.{readVcp}
 use Rattle.codec.proofs.tel.read_vcp.Statement.{statement}
 use Rattle.codec.proofs.tel.read_vcp.Tie as tie
 

@@ -1,5 +1,5 @@
-use Rattle.codec.specs.Events.{readVrt}
 use borrow.Author.Needs.{needs}
+use Rattle.codec.specs.Events.{readVrt}
 use Rattle.codec.proofs.tel.read_vrt.Statement.{statement}
 use Rattle.codec.proofs.tel.read_vrt.Tie as tie
 
@@ -39,10 +39,15 @@ count-requires-4 c κs = search needs
 blank-requires : tie.Need-blank-requires
 blank-requires c κs = search needs
 
+with-saids-requires : tie.Need-with-saids-requires
+with-saids-requires c κs = search needs
+
 returns : tie.Need-returns
 unfolding readVrt
 returns c =
-    let b6 = c .before .before .before .before .before .before in
+    let b4 = c .before .before .before .before in
+    let b5 = b4 .before in
+    let b6 = b5 .before in
     let b7 = b6 .before in
     let b8 = b7 .before in
     let b9 = b8 .before in
@@ -53,21 +58,24 @@ returns c =
     let b14 = b13 .before in
     let b15 = b14 .before in
     let b16 = b15 .before in
-    let b17 = b16 .before in
     rw (
-      ← b17 .count .ensures,
-      ← b16 .said .ensures,
-      ← b15 .said2 .ensures,
-      ← b14 .said3 .ensures,
-      ← b13 .count2 .ensures,
-      ← b12 .sn .ensures,
-      ← b11 .read-toad .ensures,
-      ← b10 .count3 .ensures,
-      ← b9 .read-prefixes .ensures,
-      ← b8 .read-prefixes2 .ensures,
-      ← b7 .count4 .ensures,
-      b6 .blank .ensures .0,
-      b6 .blank .ensures .1,
+      ← b16 .count .ensures,
+      ← b15 .said .ensures,
+      ← b14 .said2 .ensures,
+      ← b13 .said3 .ensures,
+      ← b12 .count2 .ensures,
+      ← b11 .sn .ensures,
+      ← b10 .read-toad .ensures,
+      ← b9 .count3 .ensures,
+      ← b8 .read-prefixes .ensures,
+      ← b7 .read-prefixes2 .ensures,
+      ← b6 .count4 .ensures,
+      b4 .with-saids .ensures .0,
+      b5 .blank .ensures .0,
+      b4 .with-saids .ensures .1,
+      b5 .blank .ensures .1,
+      b4 .with-saids .ensures .4,
+      b4 .with-saids .ensures .5,
     )
 
 pub read-vrt-spec : {M : Type 1} → statement M
@@ -86,4 +94,5 @@ read-vrt-spec =
     read-prefixes-requires-2
     count-requires-4
     blank-requires
+    with-saids-requires
     returns)
