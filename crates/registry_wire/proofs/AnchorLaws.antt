@@ -1,19 +1,20 @@
 -- An anchoring event in its own bytes.
---     seals-only       a seal section in bytes says what the list of its seals says
 --     seals-behind     the seals stand behind prefix, sn and said
 --     event-head       prefix, sn and said are read where they stand
 --     chosen-events    what is chosen of two events in bytes is what is chosen of the events
---     chosen-section   and its seals are those that are read
-use Prim.Native.Nat.{ℕ, _+_, _<_}
+--     used-event       the same of two parts of an attempt
+--     event-seals      its seal section is the wanted one exactly when the list of its seals is
+use Prim.Native.Nat.{ℕ, _+_, _-_}
 use mathlib.Core.Path.{_≡_, refl, ap, subst}
 use mathlib.Core.List.{List, [], _∷_, _++_, append-assoc, append-nil}
-use mathlib.Core.Bool.{Bool, true, false, cond, _&&_}
+use mathlib.Core.Bool.{true, _&&_}
 use native.Mathlib.Omega.{arith}
-use borrow.Author.Tests.{eq-eqb, ne-eqb, leb-true}
-use lib.Dec.{eqb, leb, lit<}
-use lib.ListN.{length, length-append}
-use lib.Seq.{drop-at}
-use Rattle.laws.specs.Number.{numberAt}
+use native.Mathlib.Decide.{decLt}
+use borrow.Author.Tests.{ne-eqb}
+use lib.Dec.{leb}
+use lib.ListN.{length, take, drop, length-append, length-take, List·getD-eq-default}
+use lib.Seq.{drop-at, getD-take, getD-drop}
+use Rattle.laws.specs.Number.{Bytes}
 use Rattle.laws.proofs.Number.{length-digits}
 use Rattle.laws.proofs.Tests.{and-left, and-right}
 use Rattle.cesr.specs.Numbers.{readSn, snBytes}
@@ -22,51 +23,14 @@ use Rattle.cesr.specs.declared.number.Sn.{Sn}
 use Rattle.cesr.specs.declared.primitive.Matter.{Matter}
 use Rattle.cesr.specs.declared.primitive.Said.{Said}
 use Rattle.cesr.proofs.Matters.{length-matter}
-use Rattle.events.specs.declared.seal.Seal.{Seal}
-use Rattle.codec.specs.Readers.{Read, starting, stopped, advanced, need, readByte, readByteIf, readNumber, readIf, readIdentifier, readSaid, counted}
-use Rattle.codec.specs.Events.{readEventSeal, readOtherSeal, readSeal}
+use Rattle.codec.specs.Readers.{Read, starting, readNumber, readIf, readIdentifier, readSaid}
 use Rattle.codec.specs.Layout.{joined, sectionBytes, all, saidBytes, sealBytes, goodIdentifier, goodSn, goodSaid, goodSeal}
 use Rattle.codec.proofs.Stands.{placed, Stands, stands-first, stands-rest, whole-stands}
-use Rattle.codec.proofs.Codes.{leads, codes-sn, codes-said, codes-identifier}
-use Rattle.codec.proofs.CodesSeal.{codes-seal}
-use Rattle.registry_wire.specs.Attempts.{Anchor, anchorBytes, goodAnchor, chosen, chosenAnchors, sealSection, chosenSeals, onlySeal, anchorSeals}
+use Rattle.codec.proofs.Codes.{codes-sn, codes-said, codes-identifier}
+use Rattle.registry_wire.specs.Attempts.{Anchor, anchorBytes, goodAnchor, chosen, chosenAnchors, sealSection, onlySeal, anchorSeals, anchorsIn, partOf, Holds}
+use Rattle.registry_wire.specs.declared.attempt.Part.{Part}
 use Rattle.registry_wire.proofs.AttemptLaws.{anchor-some}
-
--- a cursor that has stopped stays so
-need-stopped : (t : Bool) → need stopped t ≡ stopped
-unfolding need
-need-stopped true = refl
-need-stopped false = refl
-
-seal-stopped : (b : List ℕ) → readSeal b stopped .next ≡ stopped
-unfolding readSeal readEventSeal readOtherSeal readByteIf readByte readIdentifier readSaid readIf readNumber advanced
-seal-stopped b = go (eqb (numberAt b 0 1) 4)
-  where
-    go : (t : Bool) → cond t (readEventSeal b stopped) (readOtherSeal b stopped) .next ≡ stopped
-    go true = simp need-stopped
-    go false = simp need-stopped
-
-module _ (i : Matter) (s : Sn) (d : Said) where
-  -- a count that is not 1
-  none-counted : (n : ℕ) (tail : List ℕ) → n < 256 → (n ≡ 1 → ⊥) → anchorSeals (n ∷ tail) i s d ≡ false
-  unfolding anchorSeals counted need
-  none-counted n tail l h =
-      let w = leads n tail (n ∷ tail) starting l refl (whole-stands (n ∷ tail)) in
-      rw (w .0, ne-eqb n 1 h, seal-stopped (n ∷ tail))
-
-  pub seals-only : (l : List Seal) → (leb (length l) 8 && all goodSeal l) ≡ true → anchorSeals (sectionBytes sealBytes l) i s d ≡ onlySeal l i s d
-  unfolding sectionBytes joined anchorSeals counted need all
-  seals-only [] g = none-counted 0 [] (lit< tt) (λ e. omega arith)
-  seals-only (x ∷ []) g =
-      let b : List ℕ = 1 ∷ (sealBytes x ++ []) in
-      let w = leads 1 (sealBytes x ++ []) b starting (lit< tt) refl (whole-stands b) in
-      let e = codes-seal .complete b (placed 1) x refl (stands-first b 1 (sealBytes x) [] (w .1)) (and-left (goodSeal x) true g) in
-      let n : 1 + length (sealBytes x) ≡ length b = omega (arith, length-append (sealBytes x) []) in
-      rw (w .0, e, eq-eqb (1 + length (sealBytes x)) (length b) n)
-  seals-only (x ∷ (y ∷ l)) g =
-      let m = x ∷ (y ∷ l) in
-      let k = leb-true (length m) 8 (and-left (leb (length m) 8) (all goodSeal m) g) in
-      none-counted (length m) (joined sealBytes m) (omega arith) (λ e. omega arith)
+use Rattle.registry_wire.proofs.OnlySeal.{only-seal}
 
 length-sn : (n : Sn) → length (snBytes n) ≡ 16
 unfolding snBytes
@@ -105,6 +69,37 @@ chosen-events (x ∷ l) m =
     let n = length (anchorBytes x ++ joined anchorBytes l) in
     rw (ne-eqb n 0 (λ e. omega (arith, anchor-some x, length-append (anchorBytes x) (joined anchorBytes l))))
 
-pub chosen-section : (l m : List Anchor) (x : Anchor) → chosenAnchors l m ≡ x ∷ [] → chosenSeals (joined anchorBytes l) (joined anchorBytes m) ≡ sectionBytes sealBytes (x .seals)
-unfolding chosenSeals joined
-chosen-section l m x e = rw (chosen-events l m, e, append-nil) (seals-behind x)
+-- of the parts of an attempt
+pub used-event : (s : List ℕ) (p q : Part) → Holds s p → Holds s q → chosen (partOf s p) (partOf s q) ≡ joined anchorBytes (chosenAnchors (anchorsIn s p) (anchorsIn s q))
+used-event s p q g h = rw (g, h) (chosen-events (anchorsIn s p) (anchorsIn s q))
+
+pub one-event : (a : Anchor) → joined anchorBytes (a ∷ []) ≡ anchorBytes a
+unfolding joined
+one-event a = append-nil (anchorBytes a)
+
+-- parts of bytes are bytes
+drop-bytes : (n : ℕ) (s : List ℕ) → Bytes s → Bytes (drop n s)
+drop-bytes n s b i = rw getD-drop (b (n + i))
+
+take-bytes : (n : ℕ) (s : List ℕ) → Bytes s → Bytes (take n s)
+take-bytes n s b i =
+    elim (decLt i n) [
+      | yes l ↦ rw (getD-take n s i 0 l) (b i)
+      | no l ↦ rw (List·getD-eq-default (take n s) 0 {n = i} (rw length-take (omega arith))) (omega arith)
+    ]
+
+pub part-bytes : (s : List ℕ) (p : Part) → Bytes s → Bytes (partOf s p)
+unfolding partOf
+part-bytes s p b = take-bytes (p .to - p .from) (drop (p .from) s) (drop-bytes (p .from) s b)
+
+section-bytes : (e : List ℕ) → Bytes e → Bytes (sealSection e)
+unfolding sealSection
+section-bytes e b = drop-bytes 82 e b
+
+pub event-seals : (a : Anchor) (i : Matter) (n : Sn) (d : Said) → Bytes (anchorBytes a) → goodAnchor a ≡ true → anchorSeals (sealSection (anchorBytes a)) i n d ≡ onlySeal (a .seals) i n d
+unfolding goodAnchor
+event-seals a i n d b g =
+    let good-x = leb (length (a .seals)) 8 && all goodSeal (a .seals) in
+    let g1 = and-right (goodIdentifier (a .prefix)) (goodSn (a .sn) && (goodSaid (a .said) && good-x)) g in
+    let g2 = and-right (goodSaid (a .said)) good-x (and-right (goodSn (a .sn)) (goodSaid (a .said) && good-x) g1) in
+    rw (seals-behind a) (only-seal (a .seals) i n d (subst Bytes (seals-behind a) (section-bytes (anchorBytes a) b)) g2)

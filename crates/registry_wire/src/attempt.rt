@@ -60,24 +60,24 @@ struct SourceRead {
     next: Cursor,
 }
 
-pub struct SourcesRead {
-    pub count: usize,
-    pub source: Source,
-    pub next: Cursor,
+struct SourcesRead {
+    count: usize,
+    source: Source,
+    next: Cursor,
 }
 
-pub struct AnchorsRead {
-    pub value: Part,
-    pub next: Cursor,
+struct AnchorsRead {
+    value: Part,
+    next: Cursor,
 }
 
 // Evidence, in the fields of an attempt. Those that its kind has no use for are blank.
-pub struct EvidenceRead {
-    pub kind: u8,
-    pub issuer: Matter,
-    pub carried: Part,
-    pub management: RegistryState,
-    pub next: Cursor,
+struct EvidenceRead {
+    kind: u8,
+    issuer: Matter,
+    carried: Part,
+    management: RegistryState,
+    next: Cursor,
 }
 
 impl Part {
