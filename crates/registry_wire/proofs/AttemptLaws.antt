@@ -1,30 +1,33 @@
 -- How the sections around an event are read.
 --     section-none, section-one     a section of at most one element, by its count
 --     anchors-in, signatures-in     what stands between the cursors is what was read
+--     anchors-hold                  and nothing else stands there
 --     evidence-issuer, evidence-state, evidence-plain   evidence, by its byte
 --     issuer-read, state-read       what is kept of evidence stands for what was read
 --     decode-read                   the parts, put together
-use Prim.Native.Nat.{ℕ, zero, suc, _+_, _≤_, _<_}
-use mathlib.Core.Path.{_≡_, refl, ap, sym, _∙_}
-use mathlib.Core.List.{List, [], _∷_, _++_}
+use Prim.Native.Nat.{ℕ, zero, suc, _+_, _-_, _≤_, _<_}
+use mathlib.Core.Path.{_≡_, refl, ap, sym, subst, _∙_}
+use mathlib.Core.List.{List, [], _∷_}
 use mathlib.Core.Bool.{Bool, true, false, cond, _&&_, _||_}
 use native.Mathlib.Omega.{arith}
 use borrow.Author.Tests.{eq-eqb, ne-eqb}
 use lib.Dec.{eqb, lit<}
 use lib.ListN.{length, length-append}
 use Rattle.laws.specs.Number.{Bytes}
+use Rattle.laws.proofs.Tests.{and-left}
 use Rattle.cesr.specs.declared.primitive.Matter.{Matter}
 use Rattle.cesr.proofs.Matters.{length-matter}
 use Rattle.events.specs.TelEvents.{Event}
 use Rattle.codec.specs.declared.cursor.Cursor.{Cursor}
 use Rattle.codec.specs.Readers.{Read, Reader, starting, need, readByte, readIdentifier, counted, times, countUpTo, section}
 use Rattle.codec.specs.Events.{readEvent}
+use Rattle.codec.specs.Layout.{joined}
 use Rattle.codec.proofs.Loops.{count-within}
 use Rattle.codec.proofs.Codes.{codes-after}
 use Rattle.codec.proofs.CodesList.{codes-times, codes-section}
 use Rattle.registry_wire.specs.States.{readRegistry, viewRegistryRead}
-use Rattle.registry_wire.specs.Attempts.{Anchor, Evidence, Decoded, placed, anchorBytes, signatureBytes, goodSignature, readSource, readAnchor, readAnchors, readSignature, readIssuer, readBackerAt, readEvidence, readMessage, decodeOf, anchorsIn, signaturesIn, evidenceAs, ReadAs, passedAnchors, passedSignatures}
-use Rattle.registry_wire.specs.Attempts.Evidence.{missing, issuer, backer, backerAt}
+use Rattle.registry_wire.specs.Attempts.{Anchor, Decoded, placed, anchorBytes, signatureBytes, goodAnchor, goodSignature, readSource, readAnchor, readAnchors, readSignature, readIssuer, readBackerAt, readEvidence, readMessage, decodeOf, anchorsIn, signaturesIn, evidenceAs, partOf, Holds, ReadAs, passedAnchors, passedSignatures}
+use Rattle.registry_wire.specs.Attempts.Evidence.{missing, issuer, backer}
 use Rattle.registry_wire.specs.Attempts.Decoded.{malformed, decoded}
 use Rattle.registry_wire.specs.declared.state.RegistryState.{RegistryState}
 use Rattle.registry_wire.specs.declared.state.RegistryRead.{RegistryRead}
@@ -51,7 +54,7 @@ module _ {A : Type 0} (p : Reader A) (s : List ℕ) (c : Cursor) where
 at-place : (c : Cursor) → c .ok ≡ true → placed (c .at) ≡ c
 at-place c h = ap (λ (t : Bool). record { ok = t; at = c .at }) (sym h)
 
-anchor-some : (a : Anchor) → 0 < length (anchorBytes a)
+pub anchor-some : (a : Anchor) → 0 < length (anchorBytes a)
 anchor-some a = rw (length-append, length-matter) (omega arith)
 
 module _ (s : List ℕ) (c : Cursor) (b : Bytes s) where
@@ -78,6 +81,16 @@ module _ (s : List ℕ) (c : Cursor) (b : Bytes s) where
           rw (ne-eqb (d .at) (r .next .at) (λ q. omega (arith, anchor-some (r .value))), at-place d (t .ok))
       go (suc (suc k)) l h = absurd (omega arith)
 
+  pub anchors-hold : readAnchors s c .next .ok ≡ true → Holds s (passedAnchors s c .value)
+  unfolding partOf passedAnchors readAnchors section
+  anchors-hold h =
+      let n = countUpTo 1 s c in
+      let r = times (n .value) readAnchor s (n .next) in
+      let t = codes-times readAnchor anchorBytes goodAnchor codes-anchor (n .value) .sound s (n .next) b h in
+      let q : r .next .at ≡ n .next .at + length (joined anchorBytes (r .value)) = ap (λ (x : Cursor). x .at) (t .next) in
+      let m : r .next .at - n .next .at ≡ length (joined anchorBytes (r .value)) = omega arith in
+      rw m (t .stands ∙ ap (joined anchorBytes) (sym (anchors-in h)))
+
 -- evidence by its byte
 module _ (s : List ℕ) (c : Cursor) (k : Read ℕ) (e : k ≡ readByte s c) where
   pub evidence-issuer : k .value ≡ 1 → readEvidence s c ≡ readIssuer s (k .next)
@@ -92,6 +105,14 @@ module _ (s : List ℕ) (c : Cursor) (k : Read ℕ) (e : k ≡ readByte s c) whe
   unfolding readEvidence
   evidence-plain h l = rw (← e, ne-eqb (k .value) 1 h, ne-eqb (k .value) 3 l)
 
+-- the part of evidence that carries none
+abbrev nothing : Part
+nothing = record { from = 0; to = 0 }
+
+nothing-held : (s : List ℕ) → Holds s nothing
+unfolding partOf anchorsIn joined
+nothing-held s = refl
+
 module _ (s : List ℕ) (c : Cursor) where
   pub issuer-read : Bytes s → (m : Read Matter) (a : AnchorsRead) (g : RegistryState) → m ≡ readIdentifier s c → a ≡ passedAnchors s (m .next) → ReadAs s (record { kind = 1; issuer = m .value; carried = a .value; management = g; next = a .next }) (readIssuer s c)
   unfolding readIssuer evidenceAs passedAnchors
@@ -103,15 +124,16 @@ module _ (s : List ℕ) (c : Cursor) where
             rw (← em)
             (ap (issuer (m .value))
             (ap (λ (x : AnchorsRead). anchorsIn s (x .value)) ea ∙ anchors-in s (m .next) b (rw n at h)));
+        holds = λ h. subst (λ (x : AnchorsRead). Holds s (x .value)) (sym ea) (anchors-hold s (m .next) b (rw n at h));
       }
 
-  pub state-read : (r : RegistryRead) (m : Matter) (p : Part) → viewRegistryRead r ≡ readRegistry s c → ReadAs s (record { kind = 3; issuer = m; carried = p; management = r .value; next = r .next }) (readBackerAt s c)
+  pub state-read : (r : RegistryRead) (m : Matter) → viewRegistryRead r ≡ readRegistry s c → ReadAs s (record { kind = 3; issuer = m; carried = nothing; management = r .value; next = r .next }) (readBackerAt s c)
   unfolding readBackerAt evidenceAs
-  state-read r m p e = record { next = rw (← e); value = λ h. rw (← e) }
+  state-read r m e = record { next = rw (← e); value = λ h. rw (← e); holds = λ h. nothing-held s }
 
-  pub plain-read : (k : ℕ) (m : Matter) (p : Part) (g : RegistryState) (d : Cursor) → (k ≡ 1 → ⊥) → (k ≡ 3 → ⊥) → d ≡ c → ReadAs s (record { kind = k; issuer = m; carried = p; management = g; next = d }) (record { value = cond (eqb k 2) backer missing; next = c })
+  pub plain-read : (k : ℕ) (m : Matter) (g : RegistryState) (d : Cursor) → (k ≡ 1 → ⊥) → (k ≡ 3 → ⊥) → d ≡ c → ReadAs s (record { kind = k; issuer = m; carried = nothing; management = g; next = d }) (record { value = cond (eqb k 2) backer missing; next = c })
   unfolding evidenceAs
-  plain-read k m p g d h l e = record { next = e; value = λ o. rw (ne-eqb k 1 h, ne-eqb k 3 l) }
+  plain-read k m g d h l e = record { next = e; value = λ o. rw (ne-eqb k 1 h, ne-eqb k 3 l); holds = λ o. nothing-held s }
 
 -- what follows a test that fails does not matter
 where-true : (t q : Bool) (x y : Decoded) → (t ≡ true → x ≡ y) → cond (t && q) x malformed ≡ cond (t && q) y malformed
@@ -136,18 +158,30 @@ module _ (s : List ℕ) where
   evidence-at = counted 1 s count-at
 
   -- a cursor that has not stopped at the end had not stopped before
+  module _ (b : Bytes s) (v : EvidenceRead) (r : ReadAs s v (readEvidence s evidence-at)) (h : v .next .ok ≡ true) where
+    count-ok : count-at .ok ≡ true
+    count-ok = codes-after 1 (lit< tt) codes-evidence .sound s count-at b (rw (r .next) at h) .ok
+
+    signature-ok : signature-at .ok ≡ true
+    signature-ok = codes-section readSignature signatureBytes goodSignature codes-signature 64 (lit< tt) .sound s signature-at b count-ok .ok
+
   parts-read : Bytes s → (v : EvidenceRead) → ReadAs s v (readEvidence s evidence-at) → cond (v .next .ok && eqb (v .next .at) (length s)) (decoded (record { event = readEvent s starting .value; source = section 1 readSource s source-at .value; anchor = anchorsIn s (passedAnchors s anchor-at .value); signatures = signaturesIn s (passedSignatures s signature-at .value); evidence = evidenceAs s (v .kind) (v .issuer) (v .carried) (v .management) })) malformed ≡ decodeOf s
   unfolding decodeOf readMessage
   parts-read b v r =
       rw (← r .next)
       (where-true (v .next .ok) _ _ _
-      (λ h.
-      let g = codes-after 1 (lit< tt) codes-evidence .sound s count-at b (rw (r .next) at h) .ok in
-      let a = codes-section readSignature signatureBytes goodSignature codes-signature 64 (lit< tt) .sound s signature-at b g .ok in
-      rw (anchors-in s anchor-at b a, signatures-in s signature-at b g, r .value h)))
+      (λ h. rw (anchors-in s anchor-at b (signature-ok b v r h), signatures-in s signature-at b (count-ok b v r h), r .value h)))
 
-  pub decode-read : Bytes s → (e : Read Event) (o : Read (List Source)) (a : AnchorsRead) (g : SignaturesRead) (d : Cursor) (v : EvidenceRead) → e ≡ readEvent s starting → o ≡ section 1 readSource s (e .next) → a ≡ passedAnchors s (o .next) → g ≡ passedSignatures s (a .next) → d ≡ counted 1 s (g .next) → ReadAs s v (readEvidence s d) → cond (v .next .ok && eqb (v .next .at) (length s)) (decoded (record { event = e .value; source = o .value; anchor = anchorsIn s (a .value); signatures = signaturesIn s (g .value); evidence = evidenceAs s (v .kind) (v .issuer) (v .carried) (v .management) })) malformed ≡ decodeOf s
-  unfolding passedAnchors passedSignatures
-  decode-read b e o a g d v ee eo ea eg ed r =
-      let q : ReadAs s v (readEvidence s evidence-at) = rw (ed, eg, ea, eo, ee) at r in
-      rw (eg, ea, eo, ee) (parts-read b v q)
+  module _ (b : Bytes s) (e : Read Event) (o : Read (List Source)) (a : AnchorsRead) (g : SignaturesRead) (d : Cursor) (v : EvidenceRead) (ee : e ≡ readEvent s starting) (eo : o ≡ section 1 readSource s (e .next)) (ea : a ≡ passedAnchors s (o .next)) (eg : g ≡ passedSignatures s (a .next)) (ed : d ≡ counted 1 s (g .next)) (r : ReadAs s v (readEvidence s d)) where
+    last-read : ReadAs s v (readEvidence s evidence-at)
+    unfolding passedAnchors passedSignatures
+    last-read = rw (ed, eg, ea, eo, ee) at r
+
+    pub decode-read : (cond (v .next .ok && eqb (v .next .at) (length s)) (decoded (record { event = e .value; source = o .value; anchor = anchorsIn s (a .value); signatures = signaturesIn s (g .value); evidence = evidenceAs s (v .kind) (v .issuer) (v .carried) (v .management) })) malformed ≡ decodeOf s) × ((v .next .ok && eqb (v .next .at) (length s)) ≡ true → Holds s (a .value) × Holds s (v .carried))
+    unfolding passedAnchors passedSignatures
+    decode-read = (
+      rw (eg, ea, eo, ee) (parts-read b v last-read),
+      λ h.
+          let k = and-left (v .next .ok) (eqb (v .next .at) (length s)) h in
+          (rw (ea, eo, ee) (anchors-hold s anchor-at b (signature-ok b v last-read k)), r .holds k),
+    )

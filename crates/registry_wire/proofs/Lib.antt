@@ -1,5 +1,6 @@
 pub mod StateLoops
 pub mod AttemptLaws
+pub mod AnchorLaws
 pub mod CodesState
 pub mod CodesAttempt
 pub mod CodesStatus

@@ -1,10 +1,10 @@
 -- Attempts: their layout and limits (docs/RULES.md, "Bytes"), and how they are read.
-use Prim.Native.Nat.{ℕ, _^_}
+use Prim.Native.Nat.{ℕ, _-_, _^_}
 use mathlib.Core.Path.{_≡_}
 use mathlib.Core.List.{List, [], _∷_, _++_}
 use mathlib.Core.Bool.{Bool, true, false, cond, _&&_, _||_}
 use lib.Dec.{leb, ltb, eqb}
-use lib.ListN.{length, drop}
+use lib.ListN.{length, take, drop}
 use Rattle.laws.specs.Number.{digits}
 use Rattle.cesr.specs.Numbers.{value, snBytes}
 use Rattle.cesr.specs.Primitives.{matterBytes, eqMatter, eqSaid}
@@ -18,7 +18,7 @@ use Rattle.events.specs.declared.seal.Seal.the-variants.{Digest, Root, Source a
 use Rattle.codec.specs.declared.cursor.Cursor.{Cursor}
 use Rattle.codec.specs.Readers.{Read, Reader, starting, need, readByte, readByteIf, readQuad, readNumber, readIdentifier, readSaid, mapped, both, after, counted, times, countUpTo, section}
 use Rattle.codec.specs.Events.{readSeal, readEvent}
-use Rattle.codec.specs.Layout.{sectionBytes, all, saidBytes, sealBytes, eventBytes, goodSaid, goodIdentifier, goodSn, goodSeal, goodEvent}
+use Rattle.codec.specs.Layout.{joined, sectionBytes, all, saidBytes, sealBytes, eventBytes, goodSaid, goodIdentifier, goodSn, goodSeal, goodEvent}
 use Rattle.registry_wire.specs.States.{Registry, viewRegistry, registryBytes, goodRegistry, readRegistry}
 use Rattle.registry_wire.specs.declared.state.RegistryState.{RegistryState}
 use Rattle.registry_wire.specs.declared.attempt.Source.{Source}
@@ -197,7 +197,12 @@ viewAttempt s a =
 abbrev pub viewDecoded : List ℕ → DecodedAttempt → Decoded
 viewDecoded s r = cond (r .ok) (decoded (viewAttempt s (r .attempt))) malformed
 
--- the seals of the anchoring event that is used: the evidence's where it carries one, else the message's
+-- the anchoring event that is used: the evidence's where it carries one, else the message's
+abbrev pub chosenAnchors : List Anchor → List Anchor → List Anchor
+chosenAnchors [] message = message
+chosenAnchors (x ∷ l) message = x ∷ l
+
+-- the same of events in bytes
 unfoldable pub chosen : List ℕ → List ℕ → List ℕ
 chosen evidence message = cond (eqb (length evidence) 0) message evidence
 
@@ -249,7 +254,16 @@ unfoldable pub passedSignatures : List ℕ → Cursor → SignaturesRead
 passedSignatures s c =
     record { value = record { from = countUpTo 64 s c .next .at; count = countUpTo 64 s c .value }; next = section 64 readSignature s c .next }
 
+-- the bytes of a part
+unfoldable pub partOf : List ℕ → Part → List ℕ
+partOf s p = take (p .to - p .from) (drop (p .from) s)
+
+-- a part that holds the anchoring event that it stands for, and nothing else
+abbrev pub Holds : List ℕ → Part → Type 0
+Holds s p = partOf s p ≡ joined anchorBytes (anchorsIn s p)
+
 -- evidence that was read: the cursor behind it, and, where that has not stopped, what it stands for
 pub record ReadAs (s : List ℕ) (r : EvidenceRead) (e : Read Evidence) : Type 0 where
   pub next : r .next ≡ e .next
   pub value : r .next .ok ≡ true → evidenceAs s (r .kind) (r .issuer) (r .carried) (r .management) ≡ e .value
+  pub holds : r .next .ok ≡ true → Holds s (r .carried)

@@ -10,8 +10,9 @@ use codec::section::pass_seals;
 use codec_tel::tel::read_event;
 use events::tel::TelEvent;
 ghost use mathlib.Core.Path.{_≡_};
+ghost use mathlib.Core.Bool.{true};
 ghost use Rattle.codec.specs.Readers.{section};
-ghost use Rattle.registry_wire.specs.Attempts.{readSource, readAnchor, readIssuer, readBackerAt, readEvidence, viewSource, viewSources, passedAnchors, ReadAs, viewDecoded, decodeOf};
+ghost use Rattle.registry_wire.specs.Attempts.{readSource, readAnchor, readIssuer, readBackerAt, readEvidence, viewSource, viewSources, passedAnchors, partOf, Holds, ReadAs, viewDecoded, decodeOf};
 
 // The sn and the said of the anchoring event, as the attempt states them.
 pub struct Source {
@@ -54,29 +55,50 @@ pub struct DecodedAttempt {
     pub attempt: Attempt,
 }
 
-pub struct SourceRead {
-    pub value: Source,
-    pub next: Cursor,
+struct SourceRead {
+    value: Source,
+    next: Cursor,
 }
 
-pub struct SourcesRead {
-    pub count: usize,
-    pub source: Source,
-    pub next: Cursor,
+struct SourcesRead {
+    count: usize,
+    source: Source,
+    next: Cursor,
 }
 
-pub struct AnchorsRead {
-    pub value: Part,
-    pub next: Cursor,
+struct AnchorsRead {
+    value: Part,
+    next: Cursor,
 }
 
 // Evidence, in the fields of an attempt. Those that its kind has no use for are blank.
-pub struct EvidenceRead {
-    pub kind: u8,
-    pub issuer: Matter,
-    pub carried: Part,
-    pub management: RegistryState,
-    pub next: Cursor,
+struct EvidenceRead {
+    kind: u8,
+    issuer: Matter,
+    carried: Part,
+    management: RegistryState,
+    next: Cursor,
+}
+
+impl Part {
+    // Its bytes in s, as far as they are there.
+    pub fn bytes<'a>(self, s: &'a [u8]) -> &'a [u8]
+        ensures { λ r. ⌜ now r ≡ partOf (now (s .entry)) self ⌝ }
+    {
+        let from = self.from;
+        let to = self.to;
+        let n = s.len();
+        if to <= from {
+            return &s[n..];
+        }
+        if n <= from {
+            return &s[n..];
+        }
+        if to <= n {
+            return &s[from..to];
+        }
+        &s[from..]
+    }
 }
 
 impl Source {
@@ -217,7 +239,8 @@ fn read_evidence(c: Cursor, s: &[u8]) -> EvidenceRead
 impl Attempt {
     // Refused are bytes that break the layout or a limit, and bytes that go on behind section 10.
     pub fn decode(s: &[u8]) -> DecodedAttempt
-        ensures { λ r. ⌜ viewDecoded (now (s .entry)) r ≡ decodeOf (now (s .entry)) ⌝ }
+        ensures view { λ r. ⌜ viewDecoded (now (s .entry)) r ≡ decodeOf (now (s .entry)) ⌝ }
+        ensures parts { λ r. ⌜ (r .ok ≡ true → Holds (now (s .entry)) (r .attempt .anchor) × Holds (now (s .entry)) (r .attempt .carried)) ⌝ }
     {
         let e = read_event(Cursor::start(), s);
         let o = read_sources(e.next, s);

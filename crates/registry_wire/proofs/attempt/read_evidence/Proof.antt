@@ -37,7 +37,7 @@ returns-3 c =
     let b3 = b2 .before in
     let n1 = b3 .before .if1 .left in
     let n3 = b3 .if2 .left in
-    rw (evidence-plain _ _ _ (b3 .before .before .byte .ensures) n1 n3) (plain-read _ _ _ _ _ _ _ n1 n3 (b2 .expect-that .ensures))
+    rw (evidence-plain _ _ _ (b3 .before .before .byte .ensures) n1 n3) (plain-read _ _ _ _ _ _ n1 n3 (b2 .expect-that .ensures))
 
 pub read-evidence-spec : {M : Type 1} → statement M
 read-evidence-spec =
