@@ -2,6 +2,7 @@
 --     count-within    the count is at most the limit
 --     times-next      one element more, and the cursor alone
 --     times-pushed    one element more, pushed to a list that has room for it
+--     section-none, section-one   a section of at most one element, by its count
 --     configs-room    a list of fewer than 8 config bytes has room for one more
 use Prim.Native.Nat.{ℕ, zero, suc, _+_, _<_, _≤_}
 use mathlib.Core.Path.{_≡_, refl, ap, _∙_}
@@ -14,7 +15,7 @@ use lib.Dec.{leb}
 use lib.ListN.{length, length-append}
 use Rattle.events.specs.Configs.{hasRoom, pushed}
 use Rattle.codec.specs.declared.cursor.Cursor.{Cursor}
-use Rattle.codec.specs.Readers.{Read, Reader, stopped, need, readByte, times, countUpTo}
+use Rattle.codec.specs.Readers.{Read, Reader, stopped, need, readByte, times, countUpTo, section}
 
 pub count-within : (limit : ℕ) (s : List ℕ) (c : Cursor) (r : Read ℕ) → r ≡ countUpTo limit s c → r .value ≤ limit
 unfolding countUpTo need
@@ -47,3 +48,16 @@ module _ {A : Type 0} (p : Reader A) (s : List ℕ) (c : Cursor) where
 pub configs-room : (l : List ℕ) (x : ℕ) → length l < 8 → pushed l x ≡ l ++ (x ∷ [])
 unfolding pushed hasRoom
 configs-room l x b = rw (lt-ltb (length l) 8 b)
+
+-- a section of at most one element, by its count
+module _ {A : Type 0} (p : Reader A) (s : List ℕ) (c : Cursor) where
+  pub section-none : (limit : ℕ) (n : Read ℕ) → n ≡ countUpTo limit s c → n .value ≡ 0 → section limit p s c ≡ record { value = []; next = n .next }
+  unfolding section times
+  section-none limit n e z = rw (← e, z)
+
+  pub section-one : (n : Read ℕ) → n ≡ countUpTo 1 s c → (n .value ≡ 0 → ⊥) → section 1 p s c ≡ record { value = p s (n .next) .value ∷ []; next = p s (n .next) .next }
+  unfolding section times
+  section-one n e z =
+      let b : n .value ≤ 1 = count-within 1 s c n e in
+      let k : n .value ≡ 1 = omega arith in
+      rw (← e, k)

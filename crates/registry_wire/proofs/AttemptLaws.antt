@@ -1,5 +1,4 @@
 -- How the sections around an event are read.
---     section-none, section-one     a section of at most one element, by its count
 --     anchors-in, signatures-in     what stands between the cursors is what was read
 --     anchors-hold                  and nothing else stands there
 --     evidence-issuer, evidence-state, evidence-plain   evidence, by its byte
@@ -25,30 +24,18 @@ use Rattle.codec.specs.Layout.{joined}
 use Rattle.codec.proofs.Loops.{count-within}
 use Rattle.codec.proofs.Codes.{codes-after}
 use Rattle.codec.proofs.CodesList.{codes-times, codes-section}
-use Rattle.registry_wire.specs.States.{readRegistry, viewRegistryRead}
+use Rattle.registry_state.specs.States.{readRegistry, viewRegistryRead}
 use Rattle.registry_wire.specs.Attempts.{Anchor, Decoded, placed, anchorBytes, signatureBytes, goodAnchor, goodSignature, readSource, readAnchor, readAnchors, readSignature, readIssuer, readBackerAt, readEvidence, readMessage, decodeOf, anchorsIn, signaturesIn, evidenceAs, partOf, Holds, ReadAs, passedAnchors, passedSignatures}
 use Rattle.registry_wire.specs.Attempts.Evidence.{missing, issuer, backer}
 use Rattle.registry_wire.specs.Attempts.Decoded.{malformed, decoded}
-use Rattle.registry_wire.specs.declared.state.RegistryState.{RegistryState}
-use Rattle.registry_wire.specs.declared.state.RegistryRead.{RegistryRead}
+use Rattle.registry_state.specs.declared.state.RegistryState.{RegistryState}
+use Rattle.registry_state.specs.declared.state.RegistryRead.{RegistryRead}
 use Rattle.registry_wire.specs.declared.attempt.Source.{Source}
 use Rattle.registry_wire.specs.declared.attempt.Part.{Part}
 use Rattle.registry_wire.specs.declared.attempt.AnchorsRead.{AnchorsRead}
 use Rattle.registry_wire.specs.declared.attempt.EvidenceRead.{EvidenceRead}
 use Rattle.registry_wire.specs.declared.signatures.SignaturesRead.{SignaturesRead}
 use Rattle.registry_wire.proofs.CodesAttempt.{codes-anchor, codes-signature, codes-evidence}
-
-module _ {A : Type 0} (p : Reader A) (s : List ℕ) (c : Cursor) where
-  pub section-none : (limit : ℕ) (n : Read ℕ) → n ≡ countUpTo limit s c → n .value ≡ 0 → section limit p s c ≡ record { value = []; next = n .next }
-  unfolding section times
-  section-none limit n e z = rw (← e, z)
-
-  pub section-one : (n : Read ℕ) → n ≡ countUpTo 1 s c → (n .value ≡ 0 → ⊥) → section 1 p s c ≡ record { value = p s (n .next) .value ∷ []; next = p s (n .next) .next }
-  unfolding section times
-  section-one n e z =
-      let b : n .value ≤ 1 = count-within 1 s c n e in
-      let k : n .value ≡ 1 = omega arith in
-      rw (← e, k)
 
 -- a cursor that has not stopped is its place
 at-place : (c : Cursor) → c .ok ≡ true → placed (c .at) ≡ c

@@ -30,12 +30,12 @@ use Rattle.codec.proofs.CodesSeal.{codes-byte-test, codes-seal}
 use Rattle.codec.proofs.CodesEvent.{codes-event}
 use Rattle.codec.proofs.CodesPlain.{plain, plain-told}
 use Rattle.codec.proofs.CodesRound.{whole-sound, whole-complete}
-use Rattle.registry_wire.specs.States.{Registry, registryBytes, goodRegistry, readRegistry}
+use Rattle.registry_state.specs.States.{Registry, registryBytes, goodRegistry, readRegistry}
 use Rattle.registry_wire.specs.Attempts.{Anchor, Signature, Evidence, Message, Decoded, sourceBytes, anchorBytes, signatureBytes, evidenceBytes, attemptBytes, goodSource, goodAnchor, goodAnchors, goodSignature, goodEvidence, goodMessage, sourceOf, readSource, readSeals, anchorOf, readAnchor, readAnchors, signatureOf, readSignature, issuerOf, readIssuer, readBackerAt, readEvidence, messageOf, readMessage, decodeOf}
 use Rattle.registry_wire.specs.Attempts.Evidence.{missing, issuer, backer, backerAt}
 use Rattle.registry_wire.specs.Attempts.Decoded.{malformed, decoded}
 use Rattle.registry_wire.specs.declared.attempt.Source.{Source}
-use Rattle.registry_wire.proofs.CodesState.{codes-registry}
+use Rattle.registry_state.proofs.CodesState.{codes-registry}
 
 sourceParts : Source → Sn × Said
 sourceParts x = (x .sn, x .said)

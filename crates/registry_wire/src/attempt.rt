@@ -1,6 +1,5 @@
 // An attempt: an event, its source, the message's anchoring event, signatures and evidence.
 use crate::signatures::pass_signatures;
-use crate::state::RegistryState;
 use cesr::number::Sn;
 use cesr::primitive::Matter;
 use cesr::primitive::Said;
@@ -9,6 +8,7 @@ use codec::section::count_up_to;
 use codec::section::pass_seals;
 use codec_tel::tel::read_event;
 use events::tel::TelEvent;
+use registry_state::state::RegistryState;
 ghost use mathlib.Core.Path.{_≡_};
 ghost use mathlib.Core.Bool.{true};
 ghost use Rattle.codec.specs.Readers.{section};

@@ -14,7 +14,7 @@ returns : tie.Need-returns
 unfolding judgeOf
 returns c =
     let s = now (c .before .before .args .attempt) in
-    let e : wellFormed (decodeOf s) ≡ c .decode .result .ok = ap wellFormed (sym (c .decode .ensures)) ∙ answer-told (c .decode .result .ok) _ in
+    let e : wellFormed (decodeOf s) ≡ c .decode .result .ok = ap wellFormed (sym (c .decode .ensures .0)) ∙ answer-told (c .decode .result .ok) _ in
     rw e
 
 pub judge-spec : {M : Type 1} → statement M

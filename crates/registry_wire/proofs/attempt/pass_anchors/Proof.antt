@@ -1,5 +1,5 @@
 use Rattle.registry_wire.specs.Attempts.{readAnchor, readAnchors, passedAnchors}
-use Rattle.registry_wire.proofs.AttemptLaws.{section-none, section-one}
+use Rattle.codec.proofs.Loops.{section-none, section-one}
 use borrow.Author.Needs.{needs}
 use Rattle.registry_wire.proofs.attempt.pass_anchors.Statement.{statement}
 use Rattle.registry_wire.proofs.attempt.pass_anchors.Tie as tie

@@ -1,6 +1,6 @@
 use borrow.Author.Tests.{eq-eqb, ne-eqb}
 use Rattle.registry_wire.specs.Attempts.{readSource}
-use Rattle.registry_wire.proofs.AttemptLaws.{section-none, section-one}
+use Rattle.codec.proofs.Loops.{section-none, section-one}
 use borrow.Author.Needs.{needs}
 use Rattle.registry_wire.proofs.attempt.read_sources.Statement.{statement}
 use Rattle.registry_wire.proofs.attempt.read_sources.Tie as tie

@@ -1,0 +1,109 @@
+-- Readers and layouts agree, for states.
+--     codes-registry, codes-credential     what is read is exactly what the layout writes, within the limits
+--     registry-back, credential-back       a state that was written is read
+--     registry-again, credential-again     a state that was read writes the same bytes
+--     registry-good, credential-good       a state that is handed in and well-formed is within the limits of the layout
+use Prim.Native.Nat.{ℕ, _+_, _<_, _≤_, min}
+use mathlib.Core.Path.{_≡_, refl, ap, sym, _∙_}
+use mathlib.Core.List.{List, [], _∷_}
+use mathlib.Core.Bool.{Bool, true, false, _&&_, and-eq-true-iff}
+use native.Mathlib.Omega.{arith}
+use borrow.Author.Tests.{le-leb, leb-true}
+use lib.Dec.{leb}
+use lib.ListN.{length, take, length-take}
+use Rattle.laws.specs.Number.{Bytes}
+use Rattle.laws.specs.Room.{put}
+use Rattle.laws.proofs.Tests.{and-left, and-right}
+use Rattle.cesr.specs.Primitives.{isBasic, isSaid}
+use Rattle.events.specs.Configs.{viewConfigs}
+use Rattle.events.specs.Members.{view}
+use Rattle.codec.specs.Readers.{isIdentifier}
+use Rattle.codec.specs.Events.{isConfig}
+use Rattle.codec.specs.Layout.{all, isMatter, goodSaid, goodIdentifier, goodSn, goodToad, goodConfigs, goodPrefix, goodPrefixes}
+use Rattle.codec.proofs.Stands.{placed}
+use Rattle.codec.proofs.CodesRound.{codes-back, codes-again}
+use Rattle.cesr.specs.declared.number.Sn.{Sn}
+use Rattle.cesr.specs.declared.primitive.Matter.{Matter}
+use Rattle.cesr.specs.declared.primitive.Said.{Said}
+use Rattle.cesr.specs.declared.primitive.BasicPrefix.{BasicPrefix}
+use Rattle.codec.proofs.Codes.{Codes, and-true, codes-map, codes-both, codes-quad, codes-sn, codes-said, codes-identifier}
+use Rattle.codec.proofs.CodesSeal.{codes-configs, codes-prefixes}
+use Rattle.registry_state.specs.States.{Registry, registryBytes, credentialBytes, goodRegistry, goodCredential, registryOf, readRegistry, credentialOf, readCredential, viewRegistry, wellRegistry, wellCredential, rangedRegistry, rangedCredential}
+use Rattle.registry_state.specs.declared.state.RegistryState.{RegistryState}
+use Rattle.registry_state.specs.declared.state.CredentialState.{CredentialState}
+
+registryParts : Registry → Said × (Matter × (Sn × (Said × (ℕ × (List ℕ × List BasicPrefix)))))
+registryParts g = (g .id, (g .issuer, (g .sn, (g .latest, (g .toad, (g .configs, g .backers))))))
+
+pub codes-registry : Codes readRegistry registryBytes goodRegistry
+unfolding readRegistry registryBytes goodRegistry registryParts
+codes-registry =
+    codes-map registryOf registryParts goodRegistry (λ t h. (refl, h)) (λ g h. (refl, h))
+    (codes-both codes-said (codes-both codes-identifier (codes-both codes-sn (codes-both codes-said (codes-both codes-quad (codes-both codes-configs codes-prefixes))))))
+
+credentialParts : CredentialState → Said × (Said × (Sn × Said))
+credentialParts w = (w .registry, (w .credential, (w .sn, w .head)))
+
+pub codes-credential : Codes readCredential credentialBytes goodCredential
+unfolding readCredential credentialBytes goodCredential credentialParts
+codes-credential =
+    codes-map credentialOf credentialParts goodCredential (λ t h. (refl, h)) (λ w h. (refl, h))
+    (codes-both codes-said (codes-both codes-said (codes-both codes-sn codes-said)))
+
+pub registry-back : (l : List ℕ) (at : ℕ) (g : Registry) → goodRegistry g ≡ true → at + length (registryBytes g) ≤ length l → readRegistry (put l at (registryBytes g)) (placed at) ≡ record { value = g; next = placed (at + length (registryBytes g)) }
+registry-back = codes-back codes-registry
+
+pub registry-again : (l : List ℕ) (at : ℕ) → Bytes l → readRegistry l (placed at) .next .ok ≡ true → put l at (registryBytes (readRegistry l (placed at) .value)) ≡ l
+registry-again = codes-again codes-registry
+
+pub credential-back : (l : List ℕ) (at : ℕ) (w : CredentialState) → goodCredential w ≡ true → at + length (credentialBytes w) ≤ length l → readCredential (put l at (credentialBytes w)) (placed at) ≡ record { value = w; next = placed (at + length (credentialBytes w)) }
+credential-back = codes-back codes-credential
+
+pub credential-again : (l : List ℕ) (at : ℕ) → Bytes l → readCredential l (placed at) .next .ok ≡ true → put l at (credentialBytes (readCredential l (placed at) .value)) ≡ l
+credential-again = codes-again codes-credential
+
+both-pass : {A : Type 0} (f g : A → Bool) (l : List A) → all f l ≡ true → all g l ≡ true → all (λ x. f x && g x) l ≡ true
+unfolding all
+both-pass f g [] p q = refl
+both-pass f g (x ∷ l) p q =
+    and-true (f x && g x) (all (λ y. f y && g y) l)
+    (and-true (f x) (g x) (and-left (f x) (all f l) p) (and-left (g x) (all g l) q))
+    (both-pass f g l (and-right (f x) (all f l) p) (and-right (g x) (all g l) q))
+
+-- a list that is seen through a count is no longer than the count
+short : {A : Type 0} (n k : ℕ) (l : List A) → leb n k ≡ true → leb (length (take n l)) k ≡ true
+short n k l h = le-leb (length (take n l)) k (omega (arith, leb-true n k h, length-take n l))
+
+pub registry-good : (g : RegistryState) → wellRegistry g ≡ true → rangedRegistry g ≡ true → goodRegistry (viewRegistry g) ≡ true
+unfolding wellRegistry rangedRegistry goodRegistry goodSaid goodIdentifier goodConfigs goodPrefixes goodPrefix viewConfigs view
+registry-good g w r =
+    let w1 = and-right (leb (g .configs .count) 8) _ w in
+    let w2 = and-right (leb (g .backers .count) 16) _ w1 in
+    let w3 = and-right (isSaid (g .id .0)) _ w2 in
+    let w4 = and-right (isIdentifier (g .issuer)) _ w3 in
+    let w5 = and-right (isSaid (g .latest .0)) _ w4 in
+    let r1 = and-right (isMatter (g .id .0)) _ r in
+    let r2 = and-right (isMatter (g .issuer)) _ r1 in
+    let r3 = and-right (goodSn (g .sn)) _ r2 in
+    let r4 = and-right (isMatter (g .latest .0)) _ r3 in
+    let configs = take (g .configs .count) (g .configs .codes) in
+    let backers = take (g .backers .count) (g .backers .items) in
+    and-true _ _ (and-true _ _ (and-left (isSaid (g .id .0)) _ w2) (and-left (isMatter (g .id .0)) _ r))
+    (and-true _ _ (and-true _ _ (and-left (isIdentifier (g .issuer)) _ w3) (and-left (isMatter (g .issuer)) _ r1))
+    (and-true _ _ (and-left (goodSn (g .sn)) _ r2)
+    (and-true _ _ (and-true _ _ (and-left (isSaid (g .latest .0)) _ w4) (and-left (isMatter (g .latest .0)) _ r3))
+    (and-true _ _ (and-left (goodToad (g .toad .0)) _ r4)
+    (and-true _ _
+    (and-true _ _ (short (g .configs .count) 8 (g .configs .codes) (and-left (leb (g .configs .count) 8) _ w)) (and-left (all isConfig configs) _ w5))
+    (and-true _ _ (short (g .backers .count) 16 (g .backers .items) (and-left (leb (g .backers .count) 16) _ w1))
+    (both-pass (λ p. isBasic (p .0)) (λ p. isMatter (p .0)) backers (and-right (all isConfig configs) _ w5) (and-right (goodToad (g .toad .0)) _ r4))))))))
+
+pub credential-good : (w : CredentialState) → wellCredential w ≡ true → rangedCredential w ≡ true → goodCredential w ≡ true
+unfolding wellCredential rangedCredential goodCredential goodSaid
+credential-good w h r =
+    let h1 = and-right (isSaid (w .registry .0)) _ h in
+    let r1 = and-right (isMatter (w .registry .0)) _ r in
+    let r2 = and-right (isMatter (w .credential .0)) _ r1 in
+    and-true _ _ (and-true _ _ (and-left (isSaid (w .registry .0)) _ h) (and-left (isMatter (w .registry .0)) _ r))
+    (and-true _ _ (and-true _ _ (and-left (isSaid (w .credential .0)) _ h1) (and-left (isMatter (w .credential .0)) _ r1))
+    (and-true _ _ (and-left (goodSn (w .sn)) _ r2) (and-true _ _ (and-right (isSaid (w .credential .0)) _ h1) (and-right (goodSn (w .sn)) _ r2))))

@@ -1,0 +1,3 @@
+pub mod StateLoops
+pub mod CodesState
+pub mod CodesStatus
