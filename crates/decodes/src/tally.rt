@@ -63,7 +63,7 @@ impl Count {
     }
 
     // A line, as `cut: 3 attempts, 2 malformed, 3 agree`.
-    pub fn print(self, name: &[u8]) {
+    pub(crate) fn print(self, name: &[u8]) {
         io::write_all(STDOUT_FILENO, name);
         io::write_all(STDOUT_FILENO, b": ");
         io::print_decimal(STDOUT_FILENO, self.attempts);

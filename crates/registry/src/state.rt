@@ -1,7 +1,7 @@
 // The members after a rotation (docs/RULES.md, "Lists of backers").
 use events::member_set::Members;
 ghost use mathlib.Core.Path.{_≡_};
-ghost use mathlib.Core.Bool.{true};
+ghost use mathlib.Core.Bool.{cond};
 ghost use Prim.Native.Nat.{_+_, _≤_};
 ghost use mathlib.Core.List.{_++_};
 ghost use lib.ListN.{length};
@@ -51,7 +51,7 @@ fn join(a: Members, b: Members) -> Members
 // Survivors in their order, then additions in theirs. Where there are more than 16 the current list comes back.
 pub fn updated_members(current: Members, cuts: Members, additions: Members) -> Updated
     ensures ok { λ r. ⌜ r .ok ≡ leb (length (updatedMembers (view current) (view cuts) (view additions))) 16 ⌝ }
-    ensures list { λ r. ⌜ (r .ok ≡ true → view (r .members) ≡ updatedMembers (view current) (view cuts) (view additions)) ⌝ }
+    ensures list { λ r. ⌜ view (r .members) ≡ cond (r .ok) (updatedMembers (view current) (view cuts) (view additions)) (view current) ⌝ }
 {
     let kept = keep_uncut(current, cuts);
     if kept.size() + additions.size() <= 16 {

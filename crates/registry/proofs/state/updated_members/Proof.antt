@@ -1,6 +1,5 @@
 use Prim.Native.Nat.{_+_, _<_}
-use mathlib.Core.Path.{_≡_, sym, _∙_}
-use mathlib.Core.Bool.{false≢true}
+use mathlib.Core.Path.{_≡_, refl, sym, _∙_}
 use mathlib.Core.List.{_++_}
 use native.Mathlib.Omega.{arith}
 use lib.ListN.{length, length-append}
@@ -36,7 +35,7 @@ returns c =
     let kept : length (survivors (view (a .cuts)) (view (a .current))) ≡ length (view (b4 .keep-uncut .result)) = rw (b4 .keep-uncut .ensures) in
     let n = length-append (survivors (view (a .cuts)) (view (a .current))) (view (a .additions)) in (
       sym (le-leb (length (survivors (view (a .cuts)) (view (a .current)) ++ view (a .additions))) 16 (omega (arith, n, kept, b2 .size2 .ensures .0, b3 .size .ensures .0))),
-      λ _. c .join .ensures ∙ rw (b4 .keep-uncut .ensures),
+      c .join .ensures ∙ rw (b4 .keep-uncut .ensures),
     )
 
 returns-2 : tie.Need-returns-2
@@ -48,7 +47,7 @@ returns-2 c =
     let a = b3 .before .args in
     let kept : length (survivors (view (a .cuts)) (view (a .current))) ≡ length (view (b3 .keep-uncut .result)) = rw (b3 .keep-uncut .ensures) in
     let n = length-append (survivors (view (a .cuts)) (view (a .current))) (view (a .additions)) in
-    (sym (lt-leb (length (survivors (view (a .cuts)) (view (a .current)) ++ view (a .additions))) 16 (omega (arith, n, kept, b1 .size2 .ensures .0, b2 .size .ensures .0))), λ e. absurd (false≢true e))
+    (sym (lt-leb (length (survivors (view (a .cuts)) (view (a .current)) ++ view (a .additions))) 16 (omega (arith, n, kept, b1 .size2 .ensures .0, b2 .size .ensures .0))), refl)
 
 pub updated-members-spec : {M : Type 1} → statement M
 updated-members-spec =
