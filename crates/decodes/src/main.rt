@@ -1,4 +1,4 @@
-// Reads attempts, each behind the answer that is expected of it, and says how many `Attempt::decode` finds well-formed or malformed as
+// Reads attempts, each behind the answer that is expected of it, and says which `Attempt::decode` finds malformed, and how many as
 // expected. A record is a byte, 0 for well-formed or 1 for malformed, a byte for its group, two bytes for a length, and as many bytes.
 mod tally;
 
@@ -72,6 +72,18 @@ fn next_record(buffer: &mut [u8]) -> Next
     }
 }
 
+// A mark for each attempt, 64 in a line: M where it is malformed, else a dot.
+fn print_mark(malformed: bool, count: u64) {
+    if malformed {
+        io::write_all(STDOUT_FILENO, b"M");
+    } else {
+        io::write_all(STDOUT_FILENO, b".");
+    }
+    if count % 64 == 0 {
+        io::write_all(STDOUT_FILENO, b"\n");
+    }
+}
+
 // A loop has to end, and nothing says that the input does. So it counts down, from a number that no run uses up.
 fn run() -> Outcome {
     let mut buffer = io::large_buffer();
@@ -82,6 +94,7 @@ fn run() -> Outcome {
         match next_record(&mut buffer) {
             Next::Attempt { group, finding } => {
                 tally = tally.counted(group, finding);
+                print_mark(finding.malformed, tally.total.attempts);
             }
             Next::End => {
                 return Outcome {
@@ -106,6 +119,7 @@ fn run() -> Outcome {
 fn main() {
     let r = run();
     let t = r.tally;
+    io::write_all(STDOUT_FILENO, b"\n");
     t.group(1).print(b"vectors");
     t.group(2).print(b"cut");
     t.group(3).print(b"long");

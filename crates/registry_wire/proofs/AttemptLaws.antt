@@ -18,7 +18,7 @@ use Rattle.cesr.specs.declared.primitive.Matter.{Matter}
 use Rattle.cesr.proofs.Matters.{length-matter}
 use Rattle.events.specs.TelEvents.{Event}
 use Rattle.codec.specs.declared.cursor.Cursor.{Cursor}
-use Rattle.codec.specs.Readers.{Read, Reader, starting, need, readByte, readIdentifier, counted, times, countUpTo, section}
+use Rattle.codec.specs.Readers.{Read, starting, need, readByte, readIdentifier, counted, times, countUpTo, section}
 use Rattle.codec.specs.Events.{readEvent}
 use Rattle.codec.specs.Layout.{joined}
 use Rattle.codec.proofs.Loops.{count-within}

@@ -34,6 +34,9 @@ enum-known-group c = search needs
 counted-requires : tie.Need-counted-requires Inv-loop μ-loop
 counted-requires c κs = search needs
 
+print-mark-requires : tie.Need-print-mark-requires Inv-loop μ-loop
+print-mark-requires c κs = search needs
+
 loop-less : tie.Need-loop-less Inv-loop μ-loop
 loop-less c = search needs
 
@@ -69,6 +72,7 @@ run-spec =
     next-record-requires
     enum-known-group
     counted-requires
+    print-mark-requires
     loop-less
     loop-again
     enum-told
