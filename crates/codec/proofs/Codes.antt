@@ -28,8 +28,8 @@ use Rattle.cesr.proofs.Matters.{length-matter}
 use Rattle.cesr.proofs.Round.{Filled, matter-at, matter-bytes, read-filled}
 use Rattle.codec.specs.declared.cursor.Cursor.{Cursor}
 use Rattle.codec.specs.Layout.{byteBytes, saidBytes, prefixBytes, isMatter, goodSn, goodToad, goodSaid, goodPrefix, goodIdentifier}
-use Rattle.codec.specs.Readers.{Read, Reader, advanced, need, counted, mapped, both, after, ended, readByte, readByteIf, readQuad, readNumber, readIf, readSaid, readPrefix, readIdentifier, isIdentifier, saidOf, prefixOf}
-use Rattle.codec.proofs.Stands.{placed, Stands, stands-join, stands-first, stands-rest, stands-fits, stands-split, stands-place, Went, went, goes-on, Passed, passed, stays}
+use Rattle.codec.specs.Readers.{placed, Read, Reader, advanced, need, counted, mapped, both, after, ended, readByte, readByteIf, readQuad, readNumber, readIf, readSaid, readPrefix, readIdentifier, isIdentifier, saidOf, prefixOf}
+use Rattle.codec.proofs.Stands.{Stands, stands-join, stands-first, stands-rest, stands-fits, stands-split, stands-place, Went, went, goes-on, Passed, passed, stays}
 
 -- what a reader that has not stopped tells of the value that it gives
 pub record Told {A : Type 0} (bytes : A → List ℕ) (good : A → Bool) (s : List ℕ) (c : Cursor) (r : Read A) : Type 0 where

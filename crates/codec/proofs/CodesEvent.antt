@@ -20,9 +20,9 @@ use Rattle.events.specs.TelEvents.Event.{vcp, vrt, iss, rev, bis, brv}
 use Rattle.events.specs.declared.seal.Seal.{Seal}
 use Rattle.codec.specs.declared.cursor.Cursor.{Cursor}
 use Rattle.codec.specs.Layout.{joined, sectionBytes, byteBytes, saidBytes, prefixBytes, sealBytes, asItIs, sixSections, sectionsOf, kindByte, eventBytes, goodSaid, goodIdentifier, goodSn, goodToad, goodConfigs, goodPrefixes, goodSeal, goodEvent}
-use Rattle.codec.specs.Readers.{Read, Reader, need, mapped, both, after, ended, readByte, readNumber, readSaid, readIdentifier}
+use Rattle.codec.specs.Readers.{placed, Read, Reader, need, mapped, both, after, ended, readByte, readNumber, readSaid, readIdentifier}
 use Rattle.codec.specs.Events.{readToad, readConfigs, readPrefixes, readSeal, vcpOf, vrtOf, issOf, revOf, bisOf, brvOf, readVcp, readVrt, readIss, readRev, readBis, readBrv, readKind, readEvent}
-use Rattle.codec.proofs.Stands.{placed, Stands, stands-join, stands-first, stands-rest, Passed, passed, stays}
+use Rattle.codec.proofs.Stands.{Stands, stands-join, stands-first, stands-rest, Passed, passed, stays}
 use Rattle.codec.proofs.Codes.{Told, Codes, led, leads, shift, mapped-is, codes-both, codes-after, codes-ended, codes-byte, codes-sn, codes-said, codes-identifier}
 use Rattle.codec.proofs.CodesSeal.{codes-toad, codes-configs, codes-prefixes, codes-seal}
 

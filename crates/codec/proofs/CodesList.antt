@@ -14,8 +14,8 @@ use Rattle.laws.specs.Number.{Bytes}
 use Rattle.laws.proofs.Tests.{and-left, and-right}
 use Rattle.codec.specs.declared.cursor.Cursor.{Cursor}
 use Rattle.codec.specs.Layout.{joined, sectionBytes, all, byteBytes}
-use Rattle.codec.specs.Readers.{Read, Reader, stopped, need, readByte, times, countUpTo, section}
-use Rattle.codec.proofs.Stands.{placed, Stands, stands-join, stands-first, stands-rest, Passed, passed, stays}
+use Rattle.codec.specs.Readers.{placed, Read, Reader, stopped, need, readByte, times, countUpTo, section}
+use Rattle.codec.proofs.Stands.{Stands, stands-join, stands-first, stands-rest, Passed, passed, stays}
 use Rattle.codec.proofs.Codes.{Told, Codes, and-true, shift, codes-byte, isByte}
 
 module _ {A : Type 0} (f : A → List ℕ) where

@@ -8,8 +8,8 @@ use lib.Dec.{eqb, lit<}
 use lib.ListN.{length}
 use Rattle.laws.specs.Number.{Bytes}
 use Rattle.codec.specs.declared.cursor.Cursor.{Cursor}
-use Rattle.codec.specs.Readers.{Read, need, readByte}
-use Rattle.codec.proofs.Stands.{placed, Stands, Passed, passed, stays}
+use Rattle.codec.specs.Readers.{placed, Read, need, readByte}
+use Rattle.codec.proofs.Stands.{Stands, Passed, passed, stays}
 use Rattle.codec.proofs.Codes.{Told, leads, codes-byte}
 
 or-first : (x y : Bool) → y ≡ false → (x || y) ≡ true → x ≡ true

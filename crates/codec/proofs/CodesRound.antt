@@ -17,8 +17,8 @@ use Rattle.laws.specs.Room.{room, put}
 use Rattle.laws.proofs.Room.{put-sets, put-none, room-true, room-false, stored-same}
 use Rattle.laws.proofs.Tests.{and-left, and-right}
 use Rattle.codec.specs.declared.cursor.Cursor.{Cursor}
-use Rattle.codec.specs.Readers.{Read, Reader, starting}
-use Rattle.codec.proofs.Stands.{placed, Stands, stands-whole, whole-stands}
+use Rattle.codec.specs.Readers.{placed, Read, Reader, starting}
+use Rattle.codec.proofs.Stands.{Stands, stands-whole, whole-stands}
 use Rattle.codec.proofs.Codes.{Codes, Told}
 
 -- bytes that were stored stand there

@@ -10,10 +10,7 @@ use Rattle.laws.specs.Room.{room}
 use Rattle.laws.proofs.Room.{room-true, true-room}
 use Rattle.laws.proofs.Tests.{and-left, and-right}
 use Rattle.codec.specs.declared.cursor.Cursor.{Cursor}
-use Rattle.codec.specs.Readers.{stopped, advanced, need}
-
-abbrev pub placed : ℕ → Cursor
-placed at = record { ok = true; at = at }
+use Rattle.codec.specs.Readers.{placed, stopped, advanced, need}
 
 -- bs are the bytes of s from at on
 abbrev pub Stands : List ℕ → ℕ → List ℕ → Type 0

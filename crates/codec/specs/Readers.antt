@@ -23,6 +23,10 @@ use Rattle.codec.specs.declared.cursor.MatterRead.{MatterRead}
 abbrev pub starting : Cursor
 starting = record { ok = true; at = 0 }
 
+-- a cursor that goes on from a place
+abbrev pub placed : ℕ → Cursor
+placed at = record { ok = true; at = at }
+
 -- a cursor that met a fault
 abbrev pub stopped : Cursor
 stopped = record { ok = false; at = 0 }

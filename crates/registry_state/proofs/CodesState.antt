@@ -17,10 +17,9 @@ use Rattle.laws.proofs.Tests.{and-left, and-right}
 use Rattle.cesr.specs.Primitives.{isBasic, isSaid}
 use Rattle.events.specs.Configs.{viewConfigs}
 use Rattle.events.specs.Members.{view}
-use Rattle.codec.specs.Readers.{isIdentifier}
+use Rattle.codec.specs.Readers.{placed, isIdentifier}
 use Rattle.codec.specs.Events.{isConfig}
 use Rattle.codec.specs.Layout.{all, isMatter, goodSaid, goodIdentifier, goodSn, goodToad, goodConfigs, goodPrefix, goodPrefixes}
-use Rattle.codec.proofs.Stands.{placed}
 use Rattle.codec.proofs.CodesRound.{codes-back, codes-again}
 use Rattle.cesr.specs.declared.number.Sn.{Sn}
 use Rattle.cesr.specs.declared.primitive.Matter.{Matter}

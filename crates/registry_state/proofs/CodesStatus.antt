@@ -14,9 +14,9 @@ use Rattle.cesr.specs.Primitives.{matterBytes}
 use Rattle.cesr.specs.declared.primitive.Matter.{Matter}
 use Rattle.cesr.specs.declared.primitive.Said.{Said}
 use Rattle.codec.specs.declared.cursor.Cursor.{Cursor}
-use Rattle.codec.specs.Readers.{Read, Reader, starting, need, mapped, both, readByte, readSaid, readIdentifier, section}
+use Rattle.codec.specs.Readers.{placed, Read, Reader, starting, need, mapped, both, readByte, readSaid, readIdentifier, section}
 use Rattle.codec.specs.Layout.{sectionBytes, saidBytes, goodSaid, goodIdentifier}
-use Rattle.codec.proofs.Stands.{placed, Stands, Passed, passed, stays}
+use Rattle.codec.proofs.Stands.{Stands, Passed, passed, stays}
 use Rattle.codec.proofs.Codes.{Told, Codes, led, leads, shift, mapped-is, codes-map, codes-both, codes-byte, codes-said, codes-identifier}
 use Rattle.codec.proofs.CodesList.{codes-section}
 use Rattle.codec.proofs.CodesPlain.{plain, plain-told}

@@ -15,7 +15,6 @@ use lib.Dec.{leb}
 use lib.ListN.{length, take, drop, length-append, length-take, List·getD-eq-default}
 use lib.Seq.{drop-at, getD-take, getD-drop}
 use Rattle.laws.specs.Number.{Bytes}
-use Rattle.laws.proofs.Number.{length-digits}
 use Rattle.laws.proofs.Tests.{and-left, and-right}
 use Rattle.cesr.specs.Numbers.{readSn, snBytes}
 use Rattle.cesr.specs.Primitives.{readMatter, matterBytes}
@@ -23,18 +22,15 @@ use Rattle.cesr.specs.declared.number.Sn.{Sn}
 use Rattle.cesr.specs.declared.primitive.Matter.{Matter}
 use Rattle.cesr.specs.declared.primitive.Said.{Said}
 use Rattle.cesr.proofs.Matters.{length-matter}
-use Rattle.codec.specs.Readers.{Read, starting, readNumber, readIf, readIdentifier, readSaid}
+use Rattle.codec.specs.Readers.{placed, Read, starting, readNumber, readIf, readIdentifier, readSaid}
 use Rattle.codec.specs.Layout.{joined, sectionBytes, all, saidBytes, sealBytes, goodIdentifier, goodSn, goodSaid, goodSeal}
-use Rattle.codec.proofs.Stands.{placed, Stands, stands-first, stands-rest, whole-stands}
+use Rattle.codec.proofs.Stands.{Stands, stands-first, stands-rest, whole-stands}
 use Rattle.codec.proofs.Codes.{codes-sn, codes-said, codes-identifier}
+use Rattle.registry_state.proofs.StateLoops.{length-sn}
 use Rattle.registry_wire.specs.Attempts.{Anchor, anchorBytes, goodAnchor, chosen, chosenAnchors, sealSection, onlySeal, anchorSeals, anchorsIn, partOf, Holds}
 use Rattle.registry_wire.specs.declared.attempt.Part.{Part}
 use Rattle.registry_wire.proofs.AttemptLaws.{anchor-some}
 use Rattle.registry_wire.proofs.OnlySeal.{only-seal}
-
-length-sn : (n : Sn) → length (snBytes n) ≡ 16
-unfolding snBytes
-length-sn n = length-digits 16 _
 
 pub seals-behind : (a : Anchor) → sealSection (anchorBytes a) ≡ sectionBytes sealBytes (a .seals)
 unfolding sealSection

@@ -18,14 +18,14 @@ use Rattle.cesr.specs.declared.primitive.Matter.{Matter}
 use Rattle.cesr.proofs.Matters.{length-matter}
 use Rattle.events.specs.TelEvents.{Event}
 use Rattle.codec.specs.declared.cursor.Cursor.{Cursor}
-use Rattle.codec.specs.Readers.{Read, starting, need, readByte, readIdentifier, counted, times, countUpTo, section}
+use Rattle.codec.specs.Readers.{placed, Read, starting, need, readByte, readIdentifier, counted, times, countUpTo, section}
 use Rattle.codec.specs.Events.{readEvent}
 use Rattle.codec.specs.Layout.{joined}
 use Rattle.codec.proofs.Loops.{count-within}
 use Rattle.codec.proofs.Codes.{codes-after}
 use Rattle.codec.proofs.CodesList.{codes-times, codes-section}
 use Rattle.registry_state.specs.States.{readRegistry, viewRegistryRead}
-use Rattle.registry_wire.specs.Attempts.{Anchor, Decoded, placed, anchorBytes, signatureBytes, goodAnchor, goodSignature, readSource, readAnchor, readAnchors, readSignature, readIssuer, readBackerAt, readEvidence, readMessage, decodeOf, anchorsIn, signaturesIn, evidenceAs, partOf, Holds, ReadAs, passedAnchors, passedSignatures}
+use Rattle.registry_wire.specs.Attempts.{Anchor, Decoded, anchorBytes, signatureBytes, goodAnchor, goodSignature, readSource, readAnchor, readAnchors, readSignature, readIssuer, readBackerAt, readEvidence, readMessage, decodeOf, anchorsIn, signaturesIn, evidenceAs, partOf, Holds, ReadAs, passedAnchors, passedSignatures}
 use Rattle.registry_wire.specs.Attempts.Evidence.{missing, issuer, backer}
 use Rattle.registry_wire.specs.Attempts.Decoded.{malformed, decoded}
 use Rattle.registry_state.specs.declared.state.RegistryState.{RegistryState}

@@ -20,10 +20,10 @@ use Rattle.cesr.specs.declared.primitive.Said.{Said}
 use Rattle.events.specs.TelEvents.{Event}
 use Rattle.events.specs.declared.seal.Seal.{Seal}
 use Rattle.codec.specs.declared.cursor.Cursor.{Cursor}
-use Rattle.codec.specs.Readers.{Read, Reader, starting, need, mapped, both, after, readByte, readIdentifier, section}
+use Rattle.codec.specs.Readers.{placed, Read, Reader, starting, need, mapped, both, after, readByte, readIdentifier, section}
 use Rattle.codec.specs.Events.{readSeal}
 use Rattle.codec.specs.Layout.{joined, sectionBytes, all, saidBytes, sealBytes, goodIdentifier, goodSeal, goodToad}
-use Rattle.codec.proofs.Stands.{placed, Stands, stands-join, stands-first, stands-rest, stands-whole, whole-stands, Passed, passed, stays}
+use Rattle.codec.proofs.Stands.{Stands, stands-join, stands-first, stands-rest, stands-whole, whole-stands, Passed, passed, stays}
 use Rattle.codec.proofs.Codes.{Told, Codes, and-true, led, leads, shift, mapped-is, codes-like, codes-map, codes-both, codes-after, codes-byte, codes-quad, codes-sn, codes-said, codes-identifier}
 use Rattle.codec.proofs.CodesList.{codes-section}
 use Rattle.codec.proofs.CodesSeal.{codes-byte-test, codes-seal}

@@ -15,10 +15,10 @@ use Rattle.cesr.specs.declared.primitive.Matter.{Matter}
 use Rattle.cesr.specs.declared.primitive.Said.{Said}
 use Rattle.events.specs.declared.seal.Seal.{Seal}
 use Rattle.codec.specs.declared.cursor.Cursor.{Cursor}
-use Rattle.codec.specs.Readers.{Read, starting, stopped, need, readByte, counted}
+use Rattle.codec.specs.Readers.{placed, Read, starting, stopped, need, readByte, counted}
 use Rattle.codec.specs.Events.{readSeal}
 use Rattle.codec.specs.Layout.{joined, sectionBytes, all, sealBytes, goodSeal}
-use Rattle.codec.proofs.Stands.{placed, Stands, stands-first, whole-stands, stays}
+use Rattle.codec.proofs.Stands.{Stands, stands-first, whole-stands, stays}
 use Rattle.codec.proofs.Codes.{leads, count-complete}
 use Rattle.codec.proofs.CodesSeal.{codes-seal}
 use Rattle.registry_wire.specs.Attempts.{sealsEvent, onlySeal, anchorSeals}

@@ -16,7 +16,7 @@ use Rattle.events.specs.TelEvents.{Event, viewEvent}
 use Rattle.events.specs.declared.seal.Seal.{Seal}
 use Rattle.events.specs.declared.seal.Seal.the-variants.{Digest, Root, Source as SourceSeal, Event as EventSeal, Last, Back, Kind, Opaque}
 use Rattle.codec.specs.declared.cursor.Cursor.{Cursor}
-use Rattle.codec.specs.Readers.{Read, Reader, starting, need, readByte, readByteIf, readQuad, readNumber, readIdentifier, readSaid, mapped, both, after, counted, times, countUpTo, section}
+use Rattle.codec.specs.Readers.{Read, Reader, placed, starting, need, readByte, readByteIf, readQuad, readNumber, readIdentifier, readSaid, mapped, both, after, counted, times, countUpTo, section}
 use Rattle.codec.specs.Events.{readSeal, readEvent}
 use Rattle.codec.specs.Layout.{joined, sectionBytes, all, saidBytes, sealBytes, eventBytes, goodSaid, goodIdentifier, goodSn, goodSeal, goodEvent}
 use Rattle.registry_state.specs.States.{Registry, viewRegistry, registryBytes, goodRegistry, readRegistry}
@@ -167,9 +167,6 @@ decodeOf s =
     cond (readMessage s starting .next .ok && eqb (readMessage s starting .next .at) (length s)) (decoded (readMessage s starting .value)) malformed
 
 -- what the code's struct stands for, over the bytes that it was read from
-abbrev pub placed : ℕ → Cursor
-placed at = record { ok = true; at = at }
-
 unfoldable pub anchorsIn : List ℕ → Part → List Anchor
 anchorsIn s p = cond (eqb (p .from) (p .to)) [] (readAnchor s (placed (p .from)) .value ∷ [])
 
