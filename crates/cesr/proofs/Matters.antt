@@ -3,13 +3,12 @@
 --     length-matter            it has 33 bytes
 --     eq-matter, matter-eq     equality as a test, and as a path
 --     eq-said, said-eq, eq-prefix, prefix-eq   the same in either role
-use Prim.Native.Nat.{ℕ, suc, _+_}
-use mathlib.Core.Path.{_≡_, refl, ap, sym, _∙_}
-use mathlib.Core.List.{List, [], _∷_, _++_}
-use mathlib.Core.Bool.{Bool, true, false, cond, _&&_}
+use Prim.Native.Nat.{ℕ, _+_}
+use mathlib.Core.Path.{_≡_, refl, ap}
+use mathlib.Core.List.{List}
+use mathlib.Core.Bool.{true, false, cond, _&&_}
 use native.Mathlib.Nat.{add-assoc}
 use native.Mathlib.Numerals.{add-one}
-use native.Mathlib.Omega.{arith}
 use borrow.Author.Tests.{eq-eqb, eqb-true}
 use lib.Dec.{leb, eqb}
 use lib.ListN.{length, set, length-append}

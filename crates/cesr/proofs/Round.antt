@@ -2,19 +2,19 @@
 --     sn-back, sn-again           a sequence number that was written is read; one that was read writes the same bytes
 --     matter-back, matter-again   the same for a primitive
 --     same-bytes                  two primitives are equal exactly when their 33 bytes are
-use Prim.Native.Nat.{ℕ, zero, suc, _+_, _*_, _^_, _<_, _≤_}
+use Prim.Native.Nat.{ℕ, _+_, _^_, _<_, _≤_}
 use mathlib.Core.Path.{_≡_, refl, ap, sym, _∙_}
 use mathlib.Core.List.{List, [], _∷_, _++_, append-assoc, append-nil}
 use mathlib.Core.Bool.{Bool, true, false, cond}
 use mathlib.Core.Logic.{_↔_}
-use native.Mathlib.Nat.{add-assoc, add-zero}
+use native.Mathlib.Nat.{add-assoc}
 use native.Mathlib.Omega.{arith}
-use lib.ListN.{length, getD, take, drop, length-append, length-drop}
-use lib.Seq.{sets, sets-eq, length-take-le, length-sets, getD-at, take-add, drop-drop, drop-cons}
+use lib.ListN.{length, getD, take, drop, length-append}
+use lib.Seq.{sets-eq, length-take-le, getD-at, take-add, drop-drop, drop-cons}
 use Rattle.laws.specs.Number.{number, numberAt, digits, Bytes}
 use Rattle.laws.specs.Room.{room, put}
 use Rattle.laws.proofs.Number.{number-at, number-below, digits-number, length-digits, at-put, put-at}
-use Rattle.laws.proofs.Room.{room-true, room-false, true-room, put-sets, put-none, length-put, stored-same}
+use Rattle.laws.proofs.Room.{room-true, room-false, true-room, put-sets, put-none, stored-same}
 use Rattle.cesr.specs.declared.number.Sn.{Sn}
 use Rattle.cesr.specs.declared.primitive.Matter.{Matter}
 use Rattle.cesr.specs.Numbers.{value, snOf, readSn, snBytes}

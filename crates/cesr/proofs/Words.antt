@@ -2,10 +2,10 @@
 --     words-value, value-words   from the words to the number and back
 --     words-eqb, words-ltb       two numbers compared by their words
 --     words-read, words-bytes    the words in 16 bytes
-use Prim.Native.Nat.{ℕ, _+_, _-_, _*_, _/_, _%_, _^_, _<_, _≤_}
-use mathlib.Core.Path.{_≡_, refl, ap, ap₂, sym, _∙_}
+use Prim.Native.Nat.{ℕ, _+_, _-_, _*_, _/_, _%_, _^_, _<_}
+use mathlib.Core.Path.{_≡_, ap, ap₂, sym, _∙_}
 use mathlib.Core.List.{List, _++_}
-use mathlib.Core.Bool.{Bool, true, false, _&&_, _||_, and-false, or-false}
+use mathlib.Core.Bool.{true, false, _&&_, _||_}
 use native.Mathlib.Nat.{mod-lt, mod-eq-of-lt, div-add-mod', div-lt-iff-lt-mul}
 use native.Mathlib.Omega.{arith}
 use native.Mathlib.Decide.{decLt, ℕ-discrete}
@@ -13,7 +13,7 @@ use borrow.Author.Tests.{eq-eqb, ne-eqb, lt-ltb, le-ltb}
 use lib.Arith.{digits-lt, digits-div, digits-mod}
 use lib.Dec.{eqb, ltb, leb, lit<}
 use lib.ListN.{length}
-use Rattle.laws.specs.Number.{number, numberAt, digits}
+use Rattle.laws.specs.Number.{number, digits}
 use Rattle.laws.proofs.Number.{number-split, digits-split, digits-rest, read-whole, read-none}
 use Rattle.cesr.specs.declared.number.Sn.{Sn}
 use Rattle.cesr.specs.Numbers.{value, snOf, readSn, snBytes}

@@ -1,6 +1,6 @@
 -- Primitives: their bytes, equality, and the letters that tell their roles (docs/RULES.md, "Bytes").
 use Prim.Native.Nat.{ℕ, _+_}
-use mathlib.Core.List.{List, [], _∷_, _++_}
+use mathlib.Core.List.{List, _∷_, _++_}
 use mathlib.Core.Bool.{Bool, cond, _&&_, _||_}
 use lib.Dec.{eqb, leb}
 use lib.ListN.{getD}

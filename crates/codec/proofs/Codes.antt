@@ -5,14 +5,14 @@
 --                             one behind the other, counts, n elements, a section
 --     codes-number, codes-byte, codes-byte-if, codes-quad, codes-sn, codes-if, codes-said, codes-prefix, codes-identifier
 --                             the readers of the cursor
-use Prim.Native.Nat.{ℕ, zero, suc, _+_, _^_, _%_, _<_, _≤_}
+use Prim.Native.Nat.{ℕ, suc, _+_, _^_, _<_, _≤_}
 use mathlib.Core.Path.{_≡_, refl, ap, sym, subst, _∙_}
-use mathlib.Core.List.{List, [], _∷_, _++_, append-assoc, append-nil}
-use mathlib.Core.Bool.{Bool, true, false, cond, _&&_, _||_, false≢true}
-use native.Mathlib.Nat.{add-assoc, add-zero, mod-eq-of-lt}
+use mathlib.Core.List.{List, [], _∷_, _++_}
+use mathlib.Core.Bool.{Bool, true, _&&_}
+use native.Mathlib.Nat.{add-assoc, mod-eq-of-lt}
 use native.Mathlib.Omega.{arith}
-use borrow.Author.Tests.{eq-eqb, eqb-true, lt-ltb, ltb-true, leb-true}
-use lib.Dec.{eqb, ltb, leb, lit<}
+use borrow.Author.Tests.{eq-eqb, eqb-true, lt-ltb, ltb-true}
+use lib.Dec.{eqb, ltb, lit<}
 use lib.ListN.{length, take, drop, length-append}
 use Rattle.laws.specs.Number.{number, numberAt, digits, Bytes}
 use Rattle.laws.proofs.Number.{length-digits, number-below, number-at, digits-number, whole-number}
@@ -21,15 +21,13 @@ use Rattle.cesr.specs.Numbers.{value, snOf, readSn, snBytes}
 use Rattle.cesr.specs.Primitives.{matterBytes, readMatter, isBasic, isSaid}
 use Rattle.cesr.specs.declared.number.Sn.{Sn}
 use Rattle.cesr.specs.declared.primitive.Matter.{Matter}
-use Rattle.cesr.specs.declared.primitive.Said.{Said}
-use Rattle.cesr.specs.declared.primitive.BasicPrefix.{BasicPrefix}
 use Rattle.cesr.proofs.Words.{words-value, value-words, snOf-good, value-fits}
 use Rattle.cesr.proofs.Matters.{length-matter}
 use Rattle.cesr.proofs.Round.{Filled, matter-at, matter-bytes, read-filled}
 use Rattle.codec.specs.declared.cursor.Cursor.{Cursor}
 use Rattle.codec.specs.Layout.{byteBytes, saidBytes, prefixBytes, isMatter, goodSn, goodToad, goodSaid, goodPrefix, goodIdentifier}
-use Rattle.codec.specs.Readers.{placed, Read, Reader, advanced, need, counted, mapped, both, after, ended, readByte, readByteIf, readQuad, readNumber, readIf, readSaid, readPrefix, readIdentifier, isIdentifier, saidOf, prefixOf}
-use Rattle.codec.proofs.Stands.{Stands, stands-join, stands-first, stands-rest, stands-fits, stands-split, stands-place, Went, went, goes-on, Passed, passed, stays}
+use Rattle.codec.specs.Readers.{placed, Read, Reader, advanced, counted, mapped, both, after, ended, readByte, readByteIf, readQuad, readNumber, readIf, readSaid, readPrefix, readIdentifier, isIdentifier, saidOf, prefixOf}
+use Rattle.codec.proofs.Stands.{Stands, stands-join, stands-first, stands-rest, stands-fits, stands-split, stands-place, went, goes-on, passed, stays}
 
 -- what a reader that has not stopped tells of the value that it gives
 pub record Told {A : Type 0} (bytes : A → List ℕ) (good : A → Bool) (s : List ℕ) (c : Cursor) (r : Read A) : Type 0 where

@@ -1,11 +1,10 @@
 -- Readers and layouts agree, for events: the kind byte and sections 1 to 6.
 --     codes-event     what `readEvent` reads is exactly what `eventBytes` writes, within the limits
-use Prim.Native.Nat.{ℕ, zero, suc, _+_, _^_, _<_, _≤_}
+use Prim.Native.Nat.{ℕ, _+_, _<_}
 use mathlib.Core.Path.{_≡_, refl, ap, sym, subst, _∙_}
 use mathlib.Core.List.{List, [], _∷_, _++_, append-assoc, append-nil}
 use mathlib.Core.Bool.{Bool, true, false, cond, _&&_}
-use native.Mathlib.Omega.{arith}
-use borrow.Author.Tests.{eqb-true, lt-ltb}
+use borrow.Author.Tests.{eqb-true}
 use lib.Dec.{eqb, lit<}
 use lib.ListN.{length}
 use Rattle.laws.specs.Number.{digits, Bytes}
@@ -22,8 +21,8 @@ use Rattle.codec.specs.declared.cursor.Cursor.{Cursor}
 use Rattle.codec.specs.Layout.{joined, sectionBytes, byteBytes, saidBytes, prefixBytes, sealBytes, asItIs, sixSections, sectionsOf, kindByte, eventBytes, goodSaid, goodIdentifier, goodSn, goodToad, goodConfigs, goodPrefixes, goodSeal, goodEvent}
 use Rattle.codec.specs.Readers.{placed, Read, Reader, need, mapped, both, after, ended, readByte, readNumber, readSaid, readIdentifier}
 use Rattle.codec.specs.Events.{readToad, readConfigs, readPrefixes, readSeal, vcpOf, vrtOf, issOf, revOf, bisOf, brvOf, readVcp, readVrt, readIss, readRev, readBis, readBrv, readKind, readEvent}
-use Rattle.codec.proofs.Stands.{Stands, stands-join, stands-first, stands-rest, Passed, passed, stays}
-use Rattle.codec.proofs.Codes.{Told, Codes, led, leads, shift, mapped-is, codes-both, codes-after, codes-ended, codes-byte, codes-sn, codes-said, codes-identifier}
+use Rattle.codec.proofs.Stands.{Stands, passed, stays}
+use Rattle.codec.proofs.Codes.{Told, Codes, led, leads, shift, mapped-is, codes-both, codes-after, codes-ended, codes-sn, codes-said, codes-identifier}
 use Rattle.codec.proofs.CodesSeal.{codes-toad, codes-configs, codes-prefixes, codes-seal}
 
 -- what stands behind the kind byte

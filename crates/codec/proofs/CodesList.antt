@@ -1,21 +1,20 @@
 -- Readers and layouts agree, for lists: n elements, and a section with its count.
-use Prim.Native.Nat.{ℕ, zero, suc, _+_, _<_, _≤_}
-use mathlib.Core.Path.{_≡_, refl, ap, ap₂, sym, subst, _∙_}
+use Prim.Native.Nat.{ℕ, zero, suc, _+_, _<_}
+use mathlib.Core.Path.{_≡_, refl, ap, sym, subst, _∙_}
 use mathlib.Core.List.{List, [], _∷_, _++_, append-assoc, append-nil}
-use mathlib.Core.Bool.{Bool, true, false, cond, _&&_, and-assoc, and-true as and-unit, false≢true}
+use mathlib.Core.Bool.{Bool, true, cond, _&&_, and-assoc, and-true as and-unit}
 use native.Mathlib.Nat.{add-assoc, add-zero}
 use native.Mathlib.Numerals.{add-one}
 use native.Mathlib.Omega.{arith}
-use borrow.Author.Tests.{eq-eqb, eqb-true, lt-ltb, le-leb, leb-true}
-use lib.Dec.{eqb, ltb, leb}
-use lib.ListN.{length, getD, take, drop, length-append, take-append-drop}
-use lib.Seq.{length-take-le, take-suc, take-all}
+use borrow.Author.Tests.{eq-eqb, eqb-true, lt-ltb, leb-true}
+use lib.Dec.{eqb, leb}
+use lib.ListN.{length, length-append}
 use Rattle.laws.specs.Number.{Bytes}
 use Rattle.laws.proofs.Tests.{and-left, and-right}
 use Rattle.codec.specs.declared.cursor.Cursor.{Cursor}
-use Rattle.codec.specs.Layout.{joined, sectionBytes, all, byteBytes}
-use Rattle.codec.specs.Readers.{placed, Read, Reader, stopped, need, readByte, times, countUpTo, section}
-use Rattle.codec.proofs.Stands.{Stands, stands-join, stands-first, stands-rest, Passed, passed, stays}
+use Rattle.codec.specs.Layout.{joined, sectionBytes, all}
+use Rattle.codec.specs.Readers.{placed, Reader, need, readByte, times, countUpTo, section}
+use Rattle.codec.proofs.Stands.{Stands, stands-join, stands-first, stands-rest, passed, stays}
 use Rattle.codec.proofs.Codes.{Told, Codes, and-true, shift, codes-byte, isByte}
 
 module _ {A : Type 0} (f : A → List ℕ) where

@@ -1,16 +1,15 @@
 -- Two cases that are their byte alone, 0 and 2: how they are read and written, for any type that has them.
-use Prim.Native.Nat.{ℕ, suc, _+_, _<_}
+use Prim.Native.Nat.{ℕ}
 use mathlib.Core.Path.{_≡_, refl, sym, subst, _∙_}
 use mathlib.Core.List.{List, [], _∷_}
 use mathlib.Core.Bool.{Bool, true, false, cond, _||_}
 use borrow.Author.Tests.{eqb-true}
-use lib.Dec.{eqb, lit<}
-use lib.ListN.{length}
+use lib.Dec.{eqb}
 use Rattle.laws.specs.Number.{Bytes}
 use Rattle.codec.specs.declared.cursor.Cursor.{Cursor}
-use Rattle.codec.specs.Readers.{placed, Read, need, readByte}
+use Rattle.codec.specs.Readers.{Read, need, readByte}
 use Rattle.codec.proofs.Stands.{Stands, Passed, passed, stays}
-use Rattle.codec.proofs.Codes.{Told, leads, codes-byte}
+use Rattle.codec.proofs.Codes.{Told, codes-byte}
 
 or-first : (x y : Bool) → y ≡ false → (x || y) ≡ true → x ≡ true
 or-first true y f g = refl

@@ -4,7 +4,7 @@
 --     whole-sound, whole-complete   bytes that are read to their end
 use Prim.Native.Nat.{ℕ, _+_, _≤_}
 use mathlib.Core.Path.{_≡_, refl, ap, sym, subst, _∙_}
-use mathlib.Core.List.{List, [], _∷_, _++_, append-assoc}
+use mathlib.Core.List.{List, _++_, append-assoc}
 use mathlib.Core.Bool.{Bool, true, false, _&&_}
 use native.Mathlib.Nat.{zero-add}
 use native.Mathlib.Omega.{arith}
@@ -19,7 +19,7 @@ use Rattle.laws.proofs.Tests.{and-left, and-right}
 use Rattle.codec.specs.declared.cursor.Cursor.{Cursor}
 use Rattle.codec.specs.Readers.{placed, Read, Reader, starting}
 use Rattle.codec.proofs.Stands.{Stands, stands-whole, whole-stands}
-use Rattle.codec.proofs.Codes.{Codes, Told}
+use Rattle.codec.proofs.Codes.{Codes}
 
 -- bytes that were stored stand there
 pub put-stands : (l : List ℕ) (at : ℕ) (bs : List ℕ) → at + length bs ≤ length l → Stands (put l at bs) at bs

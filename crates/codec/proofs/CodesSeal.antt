@@ -5,7 +5,7 @@ use mathlib.Core.List.{List, [], _∷_, _++_}
 use mathlib.Core.Bool.{Bool, true, false, cond, _&&_, _||_, and-false, true≢false, false≢true}
 use native.Mathlib.Nat.{lt-of-lt-of-le}
 use native.Mathlib.Omega.{arith}
-use borrow.Author.Tests.{eq-eqb, ne-eqb, eqb-true, eqb-false, lt-ltb, ltb-true, leb-true}
+use borrow.Author.Tests.{ne-eqb, eqb-true, lt-ltb, ltb-true, leb-true}
 use lib.Dec.{eqb, ltb, leb, lit<, lit≤}
 use lib.ListN.{length}
 use Rattle.laws.specs.Number.{digits, Bytes}
@@ -23,10 +23,10 @@ use Rattle.events.specs.declared.identifier.Identifier.the-variants.{Basic, Sel
 use Rattle.events.specs.declared.seal.Seal.{Seal}
 use Rattle.events.specs.declared.seal.Seal.the-variants.{Digest, Root, Source, Event as EventSeal, Last, Back, Kind, Opaque}
 use Rattle.codec.specs.declared.cursor.Cursor.{Cursor}
-use Rattle.codec.specs.Layout.{byteBytes, saidBytes, prefixBytes, sectionBytes, all, isMatter, goodSn, goodToad, goodSaid, goodPrefix, goodIdentifier, goodConfigs, goodPrefixes, sealBytes, goodIdentity, goodSeal}
-use Rattle.codec.specs.Readers.{placed, Read, Reader, need, mapped, both, readByte, readByteIf, readNumber, readSaid, readIdentifier, isIdentifier, section, readPrefix}
+use Rattle.codec.specs.Layout.{byteBytes, saidBytes, prefixBytes, sectionBytes, isMatter, goodSn, goodToad, goodSaid, goodPrefix, goodIdentifier, goodConfigs, goodPrefixes, sealBytes, goodIdentity, goodSeal}
+use Rattle.codec.specs.Readers.{placed, both, readByte, readByteIf, readNumber, readSaid, readIdentifier, isIdentifier, readPrefix}
 use Rattle.codec.specs.Events.{isConfig, readConfig, readToad, readConfigs, readPrefixes, sealOf, eventSeal, readEventSeal, readOtherSeal, readSeal}
-use Rattle.codec.proofs.Stands.{Stands, stands-join, stands-first, stands-rest, Passed, passed, stays}
+use Rattle.codec.proofs.Stands.{Stands, passed, stays}
 use Rattle.codec.proofs.Codes.{Told, Codes, and-true, led, leads, shift, mapped-is, codes-like, codes-byte, codes-byte-if, isByte, codes-sn, codes-said, codes-prefix, codes-identifier, codes-both}
 use Rattle.codec.proofs.CodesList.{codes-section}
 

@@ -11,11 +11,10 @@ use Rattle.cesr.specs.declared.primitive.BasicPrefix.{BasicPrefix}
 use Rattle.events.specs.Configs.{viewConfigs}
 use Rattle.events.specs.Identifiers.{identifierOf}
 use Rattle.events.specs.Members.{view}
-use Rattle.events.specs.TelEvents.{Event, viewEvent}
+use Rattle.events.specs.TelEvents.{Event}
 use Rattle.events.specs.TelEvents.Event.{vcp, vrt, iss, rev, bis, brv}
 use Rattle.events.specs.declared.seal.Seal.{Seal}
 use Rattle.events.specs.declared.seal.Seal.the-variants.{Digest, Root, Source, Event as EventSeal, Last, Back, Kind, Opaque}
-use Rattle.codec.specs.declared.cursor.Cursor.{Cursor}
 use Rattle.codec.specs.declared.section.CountRead.{CountRead}
 use Rattle.codec.specs.declared.section.ConfigsRead.{ConfigsRead}
 use Rattle.codec.specs.declared.section.PrefixesRead.{PrefixesRead}

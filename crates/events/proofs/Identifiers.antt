@@ -3,7 +3,6 @@ use mathlib.Core.Path.{_≡_, refl}
 use mathlib.Core.Bool.{Bool, true, false, cond}
 use Rattle.cesr.specs.declared.primitive.Matter.{Matter}
 use Rattle.cesr.specs.Primitives.{isBasic}
-use Rattle.events.specs.declared.identifier.Identifier.{Identifier}
 use Rattle.events.specs.declared.identifier.Identifier.the-variants.{Basic, SelfAddressing}
 use Rattle.events.specs.Identifiers.{matterOf, identifierOf}
 

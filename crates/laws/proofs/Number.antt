@@ -9,12 +9,12 @@ use Prim.Native.Nat.{ℕ, zero, suc, _+_, _*_, _/_, _%_, _^_, _<_, _≤_}
 use mathlib.Core.Path.{_≡_, refl, ap, sym, _∙_}
 use mathlib.Core.List.{List, [], _∷_, _++_, append-assoc, append-nil}
 use mathlib.Core.Bool.{Bool, true, false, cond}
-use native.Mathlib.Nat.{add-zero, add-suc, add-assoc, mul-assoc, mul-one, zero-add, zero-mul, mod-lt, mod-mod-of-dvd, pow-zero, pow-suc, div-add-mod', div-lt-iff-lt-mul, div-one, div-div-eq-div-mul, mul-comm}
+use native.Mathlib.Nat.{add-zero, add-suc, add-assoc, mul-assoc, mul-one, mod-lt, pow-zero, pow-suc, div-add-mod', div-lt-iff-lt-mul, div-one, div-div-eq-div-mul, mul-comm}
 use native.Mathlib.Numerals.{add-one}
 use native.Mathlib.Omega.{arith}
 use lib.Arith.{digits-lt, digits-div, digits-mod, mod-mul}
 use lib.Dec.{leb, lit<}
-use lib.ListN.{length, getD, take, drop, length-append, length-take, length-drop, List·getD-append, take-append-drop}
+use lib.ListN.{length, getD, take, drop, length-append, length-drop}
 use lib.Seq.{sets, sets-eq, length-take-le, getD-append-add, getD-at, take-suc, getD-drop}
 use Rattle.laws.specs.Room.{room, put}
 use Rattle.laws.specs.Number.{number, numberAt, digits, Bytes}

@@ -6,13 +6,12 @@
 --     sets-append, sets-snoc the same for a run with no test
 --     stored, refused        what a writer that tests for room leaves and answers
 --     stored-same            elements stored where they stand change nothing
-use Prim.Native.Nat.{ℕ, zero, suc, _+_, _<_, _≤_}
+use Prim.Native.Nat.{ℕ, suc, _+_, _<_, _≤_}
 use mathlib.Core.Path.{_≡_, refl, ap, sym, _∙_}
 use mathlib.Core.List.{List, [], _∷_, _++_, append-assoc}
 use mathlib.Core.Bool.{Bool, true, false, cond}
-use native.Mathlib.Nat.{add-zero, add-suc, add-assoc, suc-add}
+use native.Mathlib.Nat.{add-zero, add-suc, suc-add}
 use native.Mathlib.Omega.{arith}
-use native.Mathlib.Decide.{decLe}
 use borrow.Author.Tests.{le-leb, lt-leb, leb-true, leb-false}
 use lib.Dec.{leb}
 use lib.ListN.{length, set, take, drop, length-append, length-drop, take-append-drop}

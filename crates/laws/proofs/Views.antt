@@ -1,12 +1,12 @@
 -- An array and a count, seen as the list of its first elements, each by its view: stated once, for any element and any view.
 --     seen-size, seen-at, seen-set, seen-push   through a view of the elements
 --     kept-size, kept-at, kept-set, kept-push   the elements as they are
-use Prim.Native.Nat.{ℕ, zero, suc, _+_, _<_, _≤_, min}
+use Prim.Native.Nat.{ℕ, zero, suc, _+_, _<_, min}
 use mathlib.Core.Path.{_≡_, refl, ap, sym, _∙_}
 use mathlib.Core.List.{List, [], _∷_, _++_, map}
 use native.Mathlib.Omega.{arith}
 use native.Mathlib.Numerals.{add-one}
-use lib.ListN.{length, length-map, length-take, take, set, getD, List·getD-map, List·getD-eq-default}
+use lib.ListN.{length, length-map, length-take, take, set, getD, List·getD-map}
 use lib.Seq.{getD-take, take-suc, take-suc-set, take-set-lt}
 
 -- the length of an array of structs, as the array's own fact states it

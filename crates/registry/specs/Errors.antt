@@ -1,7 +1,7 @@
 -- The refusals: their numbers, dispositions and details (docs/RULES.md, "Refusals").
 use Prim.Native.Nat.{ℕ}
 use mathlib.Core.List.{List, [], _∷_}
-use mathlib.Core.Bool.{Bool, cond}
+use mathlib.Core.Bool.{cond}
 use lib.Dec.{ltb}
 use Rattle.cesr.specs.Numbers.{value}
 use Rattle.cesr.specs.declared.number.Sn.{Sn}

@@ -3,10 +3,10 @@
 --     registry-back, credential-back       a state that was written is read
 --     registry-again, credential-again     a state that was read writes the same bytes
 --     registry-good, credential-good       a state that is handed in and well-formed is within the limits of the layout
-use Prim.Native.Nat.{ℕ, _+_, _<_, _≤_, min}
-use mathlib.Core.Path.{_≡_, refl, ap, sym, _∙_}
+use Prim.Native.Nat.{ℕ, _+_, _≤_}
+use mathlib.Core.Path.{_≡_, refl}
 use mathlib.Core.List.{List, [], _∷_}
-use mathlib.Core.Bool.{Bool, true, false, _&&_, and-eq-true-iff}
+use mathlib.Core.Bool.{Bool, true, _&&_}
 use native.Mathlib.Omega.{arith}
 use borrow.Author.Tests.{le-leb, leb-true}
 use lib.Dec.{leb}

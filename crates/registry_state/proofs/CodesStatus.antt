@@ -1,8 +1,8 @@
 -- Readers and layouts agree, for the input of `status`.
 --     decodes-status     bytes are accepted as an input exactly when they are its layout and it is within the limits
-use Prim.Native.Nat.{ℕ, suc, _+_, _<_}
-use mathlib.Core.Path.{_≡_, refl, ap, sym, subst, _∙_}
-use mathlib.Core.List.{List, [], _∷_, _++_}
+use Prim.Native.Nat.{ℕ, _+_, _<_}
+use mathlib.Core.Path.{_≡_, refl, ap, sym, _∙_}
+use mathlib.Core.List.{List, [], _∷_}
 use mathlib.Core.Bool.{Bool, true, false, cond, _&&_, _||_}
 use mathlib.Core.Logic.{_↔_}
 use native.Mathlib.Omega.{arith}
@@ -14,14 +14,14 @@ use Rattle.cesr.specs.Primitives.{matterBytes}
 use Rattle.cesr.specs.declared.primitive.Matter.{Matter}
 use Rattle.cesr.specs.declared.primitive.Said.{Said}
 use Rattle.codec.specs.declared.cursor.Cursor.{Cursor}
-use Rattle.codec.specs.Readers.{placed, Read, Reader, starting, need, mapped, both, readByte, readSaid, readIdentifier, section}
-use Rattle.codec.specs.Layout.{sectionBytes, saidBytes, goodSaid, goodIdentifier}
-use Rattle.codec.proofs.Stands.{Stands, Passed, passed, stays}
-use Rattle.codec.proofs.Codes.{Told, Codes, led, leads, shift, mapped-is, codes-map, codes-both, codes-byte, codes-said, codes-identifier}
+use Rattle.codec.specs.Readers.{placed, starting, mapped, readByte, readSaid, readIdentifier}
+use Rattle.codec.specs.Layout.{saidBytes, goodIdentifier}
+use Rattle.codec.proofs.Stands.{Stands, stays}
+use Rattle.codec.proofs.Codes.{Told, Codes, led, leads, shift, mapped-is, codes-map, codes-both, codes-said, codes-identifier}
 use Rattle.codec.proofs.CodesList.{codes-section}
 use Rattle.codec.proofs.CodesPlain.{plain, plain-told}
 use Rattle.codec.proofs.CodesRound.{whole-sound, whole-complete}
-use Rattle.registry_state.specs.States.{Registry, Reference, Status, StatusAnswer, registryBytes, credentialBytes, referenceBytes, statusBytes, goodRegistry, goodCredential, goodReference, goodOptional, goodStatus, readRegistry, readCredential, readReference, readRegistries, readCredentials, readIssuers, statusOf, readStatus, decodeStatus}
+use Rattle.registry_state.specs.States.{Registry, Reference, Status, registryBytes, credentialBytes, referenceBytes, statusBytes, goodRegistry, goodCredential, goodReference, goodOptional, goodStatus, readRegistry, readCredential, readReference, readRegistries, readCredentials, readIssuers, statusOf, readStatus, decodeStatus}
 use Rattle.registry_state.specs.States.Reference.{unnamed, named, block}
 use Rattle.registry_state.specs.States.StatusAnswer.{malformed, decoded}
 use Rattle.registry_state.specs.declared.state.CredentialState.{CredentialState}

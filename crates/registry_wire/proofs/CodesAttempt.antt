@@ -1,18 +1,15 @@
 -- Readers and layouts agree, for attempts.
 --     decodes      the decoder accepts bytes as an attempt exactly when they are its layout and it is within the limits
-use Prim.Native.Nat.{ℕ, zero, suc, _+_, _^_, _<_, _≤_}
-use mathlib.Core.Path.{_≡_, refl, ap, sym, subst, _∙_}
+use Prim.Native.Nat.{ℕ, _+_, _<_}
+use mathlib.Core.Path.{_≡_, refl, ap, sym, _∙_}
 use mathlib.Core.List.{List, [], _∷_, _++_, append-nil}
-use mathlib.Core.Bool.{Bool, true, false, cond, _&&_, _||_, true≢false, false≢true}
+use mathlib.Core.Bool.{Bool, true, false, cond, _&&_, _||_}
 use mathlib.Core.Logic.{_↔_}
-use native.Mathlib.Nat.{zero-add}
 use native.Mathlib.Omega.{arith}
-use borrow.Author.Tests.{eq-eqb, eqb-true, eqb-false, lt-ltb, leb-true}
-use lib.Dec.{eqb, leb, ltb, lit<}
+use borrow.Author.Tests.{eqb-true, leb-true}
+use lib.Dec.{eqb, leb, lit<}
 use lib.ListN.{length}
-use Rattle.laws.specs.Number.{digits, Bytes}
-use Rattle.laws.proofs.Tests.{and-left, and-right}
-use Rattle.cesr.specs.Numbers.{snBytes}
+use Rattle.laws.specs.Number.{Bytes}
 use Rattle.cesr.specs.Primitives.{matterBytes}
 use Rattle.cesr.specs.declared.number.Sn.{Sn}
 use Rattle.cesr.specs.declared.primitive.Matter.{Matter}
@@ -20,18 +17,18 @@ use Rattle.cesr.specs.declared.primitive.Said.{Said}
 use Rattle.events.specs.TelEvents.{Event}
 use Rattle.events.specs.declared.seal.Seal.{Seal}
 use Rattle.codec.specs.declared.cursor.Cursor.{Cursor}
-use Rattle.codec.specs.Readers.{placed, Read, Reader, starting, need, mapped, both, after, readByte, readIdentifier, section}
+use Rattle.codec.specs.Readers.{placed, starting, both, after, readByte, readIdentifier}
 use Rattle.codec.specs.Events.{readSeal}
-use Rattle.codec.specs.Layout.{joined, sectionBytes, all, saidBytes, sealBytes, goodIdentifier, goodSeal, goodToad}
-use Rattle.codec.proofs.Stands.{Stands, stands-join, stands-first, stands-rest, stands-whole, whole-stands, Passed, passed, stays}
-use Rattle.codec.proofs.Codes.{Told, Codes, and-true, led, leads, shift, mapped-is, codes-like, codes-map, codes-both, codes-after, codes-byte, codes-quad, codes-sn, codes-said, codes-identifier}
+use Rattle.codec.specs.Layout.{joined, sectionBytes, all, sealBytes, goodIdentifier, goodSeal, goodToad}
+use Rattle.codec.proofs.Stands.{Stands, stays}
+use Rattle.codec.proofs.Codes.{Told, Codes, led, leads, shift, mapped-is, codes-like, codes-map, codes-both, codes-after, codes-quad, codes-sn, codes-said, codes-identifier}
 use Rattle.codec.proofs.CodesList.{codes-section}
 use Rattle.codec.proofs.CodesSeal.{codes-byte-test, codes-seal}
 use Rattle.codec.proofs.CodesEvent.{codes-event}
 use Rattle.codec.proofs.CodesPlain.{plain, plain-told}
 use Rattle.codec.proofs.CodesRound.{whole-sound, whole-complete}
-use Rattle.registry_state.specs.States.{Registry, registryBytes, goodRegistry, readRegistry}
-use Rattle.registry_wire.specs.Attempts.{Anchor, Signature, Evidence, Message, Decoded, sourceBytes, anchorBytes, signatureBytes, evidenceBytes, attemptBytes, goodSource, goodAnchor, goodAnchors, goodSignature, goodEvidence, goodMessage, sourceOf, readSource, readSeals, anchorOf, readAnchor, readAnchors, signatureOf, readSignature, issuerOf, readIssuer, readBackerAt, readEvidence, messageOf, readMessage, decodeOf}
+use Rattle.registry_state.specs.States.{registryBytes, readRegistry}
+use Rattle.registry_wire.specs.Attempts.{Anchor, Signature, Evidence, Message, sourceBytes, anchorBytes, signatureBytes, evidenceBytes, attemptBytes, goodSource, goodAnchor, goodAnchors, goodSignature, goodEvidence, goodMessage, sourceOf, readSource, readSeals, anchorOf, readAnchor, readAnchors, signatureOf, readSignature, issuerOf, readIssuer, readBackerAt, readEvidence, messageOf, readMessage, decodeOf}
 use Rattle.registry_wire.specs.Attempts.Evidence.{missing, issuer, backer, backerAt}
 use Rattle.registry_wire.specs.Attempts.Decoded.{malformed, decoded}
 use Rattle.registry_wire.specs.declared.attempt.Source.{Source}

@@ -1,24 +1,23 @@
 -- The seal section of an anchoring event in bytes, and the list of its seals.
 --     only-seal    a section's bytes pass exactly when its list is the one wanted seal
-use Prim.Native.Nat.{ℕ, suc, _+_, _<_, _≤_}
-use mathlib.Core.Path.{_≡_, refl, ap, sym, _∙_}
-use mathlib.Core.List.{List, [], _∷_, _++_, append-nil}
+use Prim.Native.Nat.{ℕ, suc, _+_, _<_}
+use mathlib.Core.Path.{_≡_, refl, ap, _∙_}
+use mathlib.Core.List.{List, [], _∷_, append-nil}
 use mathlib.Core.Bool.{Bool, true, false, _&&_, false≢true}
 use native.Mathlib.Omega.{arith}
-use borrow.Author.Tests.{eq-eqb, ne-eqb, lt-ltb, leb-true}
+use borrow.Author.Tests.{eq-eqb, ne-eqb, leb-true}
 use lib.Dec.{eqb, leb, lit<}
-use lib.ListN.{length, length-append}
+use lib.ListN.{length}
 use Rattle.laws.specs.Number.{Bytes}
 use Rattle.laws.proofs.Tests.{and-left, and-right}
 use Rattle.cesr.specs.declared.number.Sn.{Sn}
 use Rattle.cesr.specs.declared.primitive.Matter.{Matter}
 use Rattle.cesr.specs.declared.primitive.Said.{Said}
 use Rattle.events.specs.declared.seal.Seal.{Seal}
-use Rattle.codec.specs.declared.cursor.Cursor.{Cursor}
-use Rattle.codec.specs.Readers.{placed, Read, starting, stopped, need, readByte, counted}
+use Rattle.codec.specs.Readers.{placed, starting, stopped, need, counted}
 use Rattle.codec.specs.Events.{readSeal}
 use Rattle.codec.specs.Layout.{joined, sectionBytes, all, sealBytes, goodSeal}
-use Rattle.codec.proofs.Stands.{Stands, stands-first, whole-stands, stays}
+use Rattle.codec.proofs.Stands.{stands-first, whole-stands}
 use Rattle.codec.proofs.Codes.{leads, count-complete}
 use Rattle.codec.proofs.CodesSeal.{codes-seal}
 use Rattle.registry_wire.specs.Attempts.{sealsEvent, onlySeal, anchorSeals}

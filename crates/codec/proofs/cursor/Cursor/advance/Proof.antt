@@ -1,10 +1,8 @@
-use mathlib.Core.Path.{_≡_, sym, ap, _∙_}
-use mathlib.Core.Bool.{true, false, _&&_}
+use mathlib.Core.Path.{sym, _∙_}
 use native.Mathlib.Omega.{arith}
 use denote.Ref.{now}
 use Prim.Native.Nat.{_+_}
 use lib.ListN.{length}
-use lib.Dec.{leb}
 use borrow.Author.Needs.{needs}
 use borrow.Author.Tests.{leb-true}
 use Rattle.laws.specs.Room.{room}
