@@ -1,0 +1,85 @@
+-- The authority of a bis or brv, and its receipts (docs/RULES.md, "Evidence", "Receipts").
+use Prim.Native.Nat.{ℕ}
+use mathlib.Core.List.{List, [], _∷_}
+use mathlib.Core.Bool.{Bool, false, _&&_}
+use lib.Dec.{eqb, leb}
+use lib.ListN.{length}
+use Rattle.laws.specs.Words.{sameList}
+use Rattle.cesr.specs.Numbers.{value}
+use Rattle.cesr.specs.Primitives.{eqMatter, eqSaid}
+use Rattle.cesr.specs.declared.number.Sn.{Sn}
+use Rattle.cesr.specs.declared.primitive.Said.{Said}
+use Rattle.events.specs.Identifiers.{matterOf}
+use Rattle.events.specs.Members.{checkMembers}
+use Rattle.events.specs.Toads.{exactOk}
+use Rattle.events.specs.declared.seal.Seal.{Seal}
+use Rattle.events.specs.declared.seal.Seal.the-variants.{Digest, Root, Source, Event, Last, Back, Kind, Opaque}
+use Rattle.registry_state.specs.States.{Registry}
+use Rattle.registry_wire.specs.Attempts.{Signature, Evidence}
+use Rattle.registry_wire.specs.Attempts.Evidence.{missing, issuer, backer, backerAt}
+use Rattle.registry_error.specs.declared.error.RegistryRejection.the-variants.{InconsistentRegistry, InconsistentIssuer, InconsistentManagement, UnresolvedAnchor, BackerThreshold, MissingBackerReceipts}
+use Rattle.registry_error.specs.declared.error.Answer.{Answer}
+use Rattle.registry_error.specs.declared.error.Answer.the-variants.{Rejected}
+use Rattle.registry_error.specs.Answers.{acceptIf, backerSet, orElse, firstOf}
+use Rattle.registry_verification.specs.Receipts.{receipts}
+
+-- whether two states are of one registry: id, issuer and config, which are equal only as lists
+unfoldable pub sameRegistry : Registry → Registry → Bool
+sameRegistry g h = eqSaid (g .id) (h .id) && (eqMatter (g .issuer) (h .issuer) && sameList (g .configs) (h .configs))
+
+-- whether a state stands at this sn with this event
+unfoldable pub standsAt : Registry → Sn → Said → Bool
+standsAt g s d = eqb (value (g .sn)) (value s) && eqSaid (g .latest) d
+
+-- 22, 23 or 19 by the evidence: the state that the seal's s and d name is BackerAt's, or the registry's present head
+abbrev pub resolvedBy : Registry → Sn → Said → Evidence → Answer
+resolvedBy g s d missing = Rejected (UnresolvedAnchor s)
+resolvedBy g s d (issuer prefix anchor) = Rejected InconsistentIssuer
+resolvedBy g s d backer = acceptIf (standsAt g s d) (UnresolvedAnchor s)
+resolvedBy g s d (backerAt h) = acceptIf (sameRegistry h g && standsAt h s d) InconsistentManagement
+
+-- whether a seal names the registry
+abbrev pub namesRegistry : Seal → Said → Bool
+namesRegistry Digest id = false
+namesRegistry Root id = false
+namesRegistry Source id = false
+namesRegistry (Event i s d) id = eqMatter (matterOf i) (id .0)
+namesRegistry Last id = false
+namesRegistry Back id = false
+namesRegistry Kind id = false
+namesRegistry Opaque id = false
+
+-- 22: the seal is of kind 4; 10: its i is the registry's id; then by the evidence
+abbrev pub resolved : Registry → Seal → Evidence → Answer
+resolved g Digest e = Rejected InconsistentManagement
+resolved g Root e = Rejected InconsistentManagement
+resolved g Source e = Rejected InconsistentManagement
+resolved g (Event i s d) e = orElse (acceptIf (eqMatter (matterOf i) (g .id .0)) InconsistentRegistry) (resolvedBy g s d e)
+resolved g Last e = Rejected InconsistentManagement
+resolved g Back e = Rejected InconsistentManagement
+resolved g Kind e = Rejected InconsistentManagement
+resolved g Opaque e = Rejected InconsistentManagement
+
+-- the state whose backers and toad are used
+abbrev pub authority : Registry → Evidence → Registry
+authority g missing = g
+authority g (issuer prefix anchor) = g
+authority g backer = g
+authority g (backerAt h) = h
+
+-- 27: a toad is met by as many valid receipts, so a toad of 0 by none
+unfoldable pub enoughReceipts : ℕ → ℕ → List Signature → Answer
+enoughReceipts toad backers l = acceptIf (leb toad (receipts backers l)) (MissingBackerReceipts (receipts backers l) toad)
+
+-- 24, 26, 27 of the authority
+unfoldable pub backedBy : Registry → List Signature → Answer
+backedBy g l =
+    firstOf
+    (backerSet (checkMembers (g .backers))
+    ∷ acceptIf (exactOk (g .toad) (length (g .backers))) BackerThreshold
+    ∷ enoughReceipts (g .toad) (length (g .backers)) l
+    ∷ [])
+
+-- 22 to 27 of bis and brv
+unfoldable pub authenticateBacker : Registry → Seal → Evidence → List Signature → Answer
+authenticateBacker g seal e l = firstOf (resolved g seal e ∷ backedBy (authority g e) l ∷ [])

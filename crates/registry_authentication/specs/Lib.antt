@@ -1,0 +1,2 @@
+pub mod Backers
+pub mod Issuers

@@ -1,0 +1,3 @@
+// Why an attempt is turned down.
+pub mod answer;
+pub mod error;

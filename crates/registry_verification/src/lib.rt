@@ -1,0 +1,3 @@
+// Receipts, and the members after a rotation.
+pub mod state;
+pub mod verification;

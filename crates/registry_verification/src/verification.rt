@@ -1,0 +1,62 @@
+// Receipts of backers (docs/RULES.md, "Receipts"). Verifying a signature is the caller's; an attempt has the verdicts.
+use codec::cursor::Cursor;
+use events::member_set::Members;
+use registry_wire::attempt::Counted;
+use registry_wire::signatures::read_signature;
+ghost use mathlib.Core.Path.{_≡_};
+ghost use Prim.Native.Nat.{_≤_};
+ghost use lib.ListN.{length};
+ghost use Rattle.events.specs.Members.{view};
+ghost use Rattle.registry_wire.specs.Attempts.{signaturesIn};
+ghost use Rattle.registry_verification.specs.Receipts.{receipts, marked};
+
+// A mark for each backer, 0 or 1, and how many are set: no signature is looked back at.
+pub struct Marks {
+    pub seen: [u8; 16],
+    pub valid: usize,
+}
+
+// A signature that is good and whose index is a backer's sets that backer's mark.
+fn mark(m: Marks, backers: usize, index: u32, verdict: u8) -> Marks
+    requires { ⌜ (backers ≤ 16) × (m .valid ≤ 16) ⌝ }
+    ensures { λ r. ⌜ r ≡ marked backers m (record { index = index; verdict = verdict }) ⌝ }
+{
+    let at = index as usize;
+    let good = (at < backers) & (verdict == 1);
+    if !good {
+        return m;
+    }
+    let mut seen = m.seen;
+    if seen[at] != 0 {
+        return m;
+    }
+    seen[at] = 1;
+    Marks {
+        seen,
+        valid: m.valid + 1,
+    }
+}
+
+// How many backers have a good signature.
+pub fn valid_receipts(s: &[u8], signatures: Counted, backers: Members) -> usize
+    ensures { λ r. ⌜ r ≡ receipts (length (view backers)) (signaturesIn (now (s .entry)) signatures) ⌝ }
+{
+    let n = backers.size();
+    let count = signatures.count;
+    let mut c = Cursor {
+        ok: true,
+        at: signatures.from,
+    };
+    let mut m = Marks {
+        seen: [0u8; 16],
+        valid: 0,
+    };
+    let mut i: usize = 0;
+    while i < count {
+        let x = read_signature(c, s);
+        m = mark(m, n, x.index, x.verdict);
+        c = x.next;
+        i += 1;
+    }
+    m.valid
+}
