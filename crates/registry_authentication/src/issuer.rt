@@ -46,9 +46,9 @@ pub fn names_issuer(evidence: u8, prefix: Matter, issuer: Matter) -> bool
 }
 
 // The anchoring event, the evidence's where that has bytes, against the issuer, the source and the event's own coordinate: id, sn and said. A source is there where their count is not 0.
-pub fn verify_kel_anchor(
-    evidence: &[u8],
-    message: &[u8],
+pub fn verify_kel_anchor<'a>(
+    evidence: &'a [u8],
+    message: &'a [u8],
     sources: usize,
     source: Source,
     issuer: Matter,

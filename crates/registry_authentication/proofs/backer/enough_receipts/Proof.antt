@@ -1,0 +1,28 @@
+use Rattle.registry_authentication.specs.Backers.{enoughReceipts}
+use borrow.Author.Needs.{needs}
+use Rattle.registry_authentication.proofs.backer.enough_receipts.Statement.{statement}
+use Rattle.registry_authentication.proofs.backer.enough_receipts.Tie as tie
+use Rattle.events.proofs.toad.Toad.value.Reads as value-reads
+use Rattle.registry_error.proofs.answer.accept_if.Reads as accept-if-reads
+use Rattle.registry_verification.proofs.verification.valid_receipts.Reads as valid-receipts-reads
+
+valid-receipts-requires : tie.Need-valid-receipts-requires
+valid-receipts-requires c κs = search needs
+
+value-requires : tie.Need-value-requires
+value-requires c κs = search needs
+
+cast-enough : tie.Need-cast-enough
+cast-enough c = search needs
+
+accept-if-requires : tie.Need-accept-if-requires
+accept-if-requires c κs = search needs
+
+returns : tie.Need-returns
+unfolding enoughReceipts
+returns c = rw (c .accept-if .ensures, c .before .value .ensures, c .before .before .valid-receipts .ensures)
+
+pub enough-receipts-spec : {M : Type 1} → statement M
+enough-receipts-spec =
+    tie.close
+    (tie.spec valid-receipts-requires value-requires cast-enough accept-if-requires returns)

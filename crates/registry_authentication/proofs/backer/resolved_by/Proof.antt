@@ -1,0 +1,56 @@
+use borrow.Author.Tests.{ne-eqb}
+use Rattle.registry_wire.specs.Attempts.{evidenceAs}
+use borrow.Author.Needs.{needs}
+use Rattle.registry_authentication.proofs.backer.resolved_by.Statement.{statement}
+use Rattle.registry_authentication.proofs.backer.resolved_by.Tie as tie
+use Rattle.registry_authentication.proofs.backer.same_registry.Reads as same-registry-reads
+use Rattle.registry_authentication.proofs.backer.stands_at.Reads as stands-at-reads
+use Rattle.registry_error.proofs.answer.accept_if.Reads as accept-if-reads
+
+returns : tie.Need-returns
+unfolding evidenceAs
+returns c b p d = rw (c .if1 .taken)
+
+same-registry-requires : tie.Need-same-registry-requires
+same-registry-requires c κs = search needs
+
+stands-at-requires : tie.Need-stands-at-requires
+stands-at-requires c κs = search needs
+
+accept-if-requires : tie.Need-accept-if-requires
+accept-if-requires c κs = search needs
+
+returns-2 : tie.Need-returns-2
+unfolding evidenceAs
+returns-2 c b p d =
+    rw (c .before .before .before .if2 .taken, c .accept-if .ensures, c .before .stands-at .ensures, c .before .before .same-registry .ensures)
+
+stands-at-requires-2 : tie.Need-stands-at-requires-2
+stands-at-requires-2 c κs = search needs
+
+accept-if-requires-2 : tie.Need-accept-if-requires-2
+accept-if-requires-2 c κs = search needs
+
+returns-3 : tie.Need-returns-3
+unfolding evidenceAs
+returns-3 c b p d = rw (c .before .before .if3 .taken, c .accept-if2 .ensures, c .before .stands-at2 .ensures)
+
+returns-4 : tie.Need-returns-4
+unfolding evidenceAs
+returns-4 c b p d =
+    let n = c .before .before .before .args .evidence in
+    rw (ne-eqb n 1 (c .before .before .if1 .left), ne-eqb n 3 (c .before .if2 .left), ne-eqb n 2 (c .if3 .left))
+
+pub resolved-by-spec : {M : Type 1} → statement M
+resolved-by-spec =
+    tie.close
+    (tie.spec
+    returns
+    same-registry-requires
+    stands-at-requires
+    accept-if-requires
+    returns-2
+    stands-at-requires-2
+    accept-if-requires-2
+    returns-3
+    returns-4)

@@ -1,0 +1,23 @@
+use Rattle.registry_authentication.specs.Backers.{sameRegistry}
+use borrow.Author.Needs.{needs}
+use Rattle.registry_authentication.proofs.backer.same_registry.Statement.{statement}
+use Rattle.registry_authentication.proofs.backer.same_registry.Tie as tie
+use Rattle.cesr.proofs.primitive.Matter.same.Reads as primitive-Matter-same-reads
+use Rattle.cesr.proofs.primitive.Said.same.Reads as primitive-Said-same-reads
+use Rattle.events.proofs.config.Configs.same.Reads as config-Configs-same-reads
+
+same-requires : tie.Need-same-requires
+same-requires c κs = search needs
+
+same-requires-2 : tie.Need-same-requires-2
+same-requires-2 c κs = search needs
+
+same-requires-3 : tie.Need-same-requires-3
+same-requires-3 c κs = search needs
+
+returns : tie.Need-returns
+unfolding sameRegistry
+returns c = rw (c .same3 .ensures, c .before .same2 .ensures, c .before .before .same .ensures)
+
+pub same-registry-spec : {M : Type 1} → statement M
+same-registry-spec = tie.close (tie.spec same-requires same-requires-2 same-requires-3 returns)

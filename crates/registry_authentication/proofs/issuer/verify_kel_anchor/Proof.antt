@@ -1,0 +1,93 @@
+use denote.Ref.{now}
+use borrow.Author.Tests.{ne-eqb}
+use lib.ListN.{length}
+use Rattle.registry_wire.specs.Attempts.{chosenSeals}
+use borrow.Author.Needs.{needs}
+use Rattle.registry_authentication.proofs.issuer.verify_kel_anchor.Statement.{statement}
+use Rattle.registry_authentication.proofs.issuer.verify_kel_anchor.Tie as tie
+use Rattle.cesr.proofs.number.Sn.read.Reads as number-Sn-read-reads
+use Rattle.cesr.proofs.number.Sn.same.Reads as number-Sn-same-reads
+use Rattle.cesr.proofs.primitive.Matter.read.Reads as primitive-Matter-read-reads
+use Rattle.cesr.proofs.primitive.Matter.same.Reads as primitive-Matter-same-reads
+use Rattle.registry_error.proofs.answer.accept_if.Reads as accept-if-reads
+use Rattle.registry_wire.proofs.seals.anchor_seals.Reads as anchor-seals-reads
+use Rattle.registry_wire.proofs.seals.chosen.Reads as chosen-reads
+use Rattle.registry_wire.proofs.seals.chosen_seals.Reads as chosen-seals-reads
+
+chosen-requires : tie.Need-chosen-requires
+chosen-requires c κs = search needs
+
+returns : tie.Need-returns
+returns c = rw (c .if1 .taken)
+
+returns-2 : tie.Need-returns-2
+returns-2 c =
+    let b2 = c .before .before in
+    rw (ne-eqb (b2 .before .before .before .args .sources) 0 (c .before .if1 .left), ← b2 .chosen .ensures, c .if2 .taken)
+
+read-requires : tie.Need-read-requires
+read-requires c κs = search needs
+
+read-requires-2 : tie.Need-read-requires-2
+read-requires-2 c κs = search needs
+
+read-requires-3 : tie.Need-read-requires-3
+read-requires-3 c κs = search needs
+
+same-requires : tie.Need-same-requires
+same-requires c κs = search needs
+
+same-requires-2 : tie.Need-same-requires-2
+same-requires-2 c κs = search needs
+
+same-requires-3 : tie.Need-same-requires-3
+same-requires-3 c κs = search needs
+
+chosen-seals-requires : tie.Need-chosen-seals-requires
+chosen-seals-requires c κs = search needs
+
+anchor-seals-requires : tie.Need-anchor-seals-requires
+anchor-seals-requires c κs = search needs
+
+accept-if-requires : tie.Need-accept-if-requires
+accept-if-requires c κs = search needs
+
+returns-3 : tie.Need-returns-3
+unfolding chosenSeals
+returns-3 c =
+    let b3 = c .before .before .before in
+    let b6 = b3 .before .before .before in
+    let b9 = b6 .before .before .before in
+    let b11 = b9 .before .before in
+    rw (
+      ne-eqb (b11 .before .before .before .args .sources) 0 (b9 .before .if1 .left),
+      c .accept-if .ensures,
+      c .before .anchor-seals .ensures,
+      c .before .before .chosen-seals .ensures,
+      b3 .same3 .ensures,
+      b3 .before .same2 .ensures,
+      b3 .before .before .same .ensures,
+      b6 .read3 .ensures,
+      b6 .before .read2 .ensures,
+      b6 .before .before .read .ensures,
+      ← b11 .chosen .ensures,
+      ne-eqb (length (now (b11 .chosen .result))) 0 (b9 .if2 .left),
+    )
+
+pub verify-kel-anchor-spec : {M : Type 1} → statement M
+verify-kel-anchor-spec =
+    tie.close
+    (tie.spec
+    chosen-requires
+    returns
+    returns-2
+    read-requires
+    read-requires-2
+    read-requires-3
+    same-requires
+    same-requires-2
+    same-requires-3
+    chosen-seals-requires
+    anchor-seals-requires
+    accept-if-requires
+    returns-3)
