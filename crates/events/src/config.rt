@@ -85,6 +85,15 @@ impl Configs {
         if 8 < n { 8 } else { n }
     }
 
+    // The same bytes, and no count past them.
+    pub fn trimmed(self) -> Configs
+        ensures { λ r. ⌜ (viewConfigs r ≡ viewConfigs self) × (r .count ≡ length (viewConfigs self)) ⌝ }
+    {
+        let codes = self.codes;
+        let count = self.size();
+        Configs { codes, count }
+    }
+
     // The byte at i, or 0 where there is none.
     pub fn item(self, i: usize) -> u8
         ensures { λ r. ⌜ r ≡ getD (viewConfigs self) i 0 ⌝ }

@@ -56,6 +56,15 @@ impl Members {
         if 16 < n { 16 } else { n }
     }
 
+    // The same members, and no count past them.
+    pub fn trimmed(self) -> Members
+        ensures { λ r. ⌜ (view r ≡ view self) × (r .count ≡ length (view self)) ⌝ }
+    {
+        let items = self.items;
+        let count = self.size();
+        Members { items, count }
+    }
+
     // The member at `i`, or no prefix past the end.
     pub fn item(self, i: usize) -> BasicPrefix
         ensures { λ r. ⌜ r ≡ at (view self) i ⌝ }

@@ -17,6 +17,12 @@ length-mapped X Y f l n e = sym (length-map l f) ∙ e
 pub take-step : {A : Type 0} (l : List A) (i : ℕ) (d : A) → i < length l → take (i + 1) l ≡ take i l ++ (getD l i d ∷ [])
 take-step l i d h = rw add-one (take-suc l i d h)
 
+-- a count past the end of a list takes no more than its length
+pub take-counted : {A : Type 0} (n : ℕ) (l : List A) → take (length (take n l)) l ≡ take n l
+take-counted zero l = refl
+take-counted (suc n) [] = refl
+take-counted {A} (suc n) (x ∷ l) = ap (λ (r : List A). x ∷ r) (take-counted n l)
+
 module _ {A : Type 0} (n k : ℕ) (l : List A) (h : length l ≡ k) where
   pub kept-size : length (take n l) ≡ min n k
   kept-size = rw (length-take, h)

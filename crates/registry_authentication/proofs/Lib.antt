@@ -1,1 +1,2 @@
+pub mod AnchorTie
 pub mod EvidenceLaws

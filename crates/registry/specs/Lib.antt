@@ -1,0 +1,2 @@
+pub mod CredentialFolds
+pub mod RegistryFolds
