@@ -1,0 +1,2 @@
+// The status of a credential.
+pub mod credential;
