@@ -18,7 +18,7 @@ ghost use Rattle.registry.specs.RegistryFolds.{Anchored, nextSn};
 
 // The message's anchoring event alone: of vcp, bis and brv.
 pub(crate) fn message_anchored(a: Attempt, s: &[u8], issuer: Matter, id: Said, sn: Sn) -> Answer
-    requires { ⌜ Anchored (now (s .entry)) a ⌝ }
+    requires { ⌜ Anchored (now s) a ⌝ }
     ensures { λ r. ⌜ r ≡ anchored issuer id sn (a .event .said) (sourcesIn a) (anchorsIn (now (s .entry)) (a .anchor)) ⌝ }
 {
     let none = Part { from: 0, to: 0 };
@@ -38,7 +38,7 @@ pub(crate) fn message_anchored(a: Attempt, s: &[u8], issuer: Matter, id: Said, s
 
 // The issuer's evidence, and the anchoring event that it carries, else the message's: of vrt, iss and rev.
 pub(crate) fn authenticate_issuer(a: Attempt, s: &[u8], issuer: Matter, id: Said, sn: Sn) -> Answer
-    requires { ⌜ Anchored (now (s .entry)) a ⌝ }
+    requires { ⌜ Anchored (now s) a ⌝ }
     ensures { λ r. ⌜ r ≡ authenticateIssuer issuer id sn (a .event .said) (viewAttempt (now (s .entry)) a) ⌝ }
 {
     let kind = issuer_kind(a.evidence);

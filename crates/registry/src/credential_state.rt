@@ -33,7 +33,7 @@ pub struct CredentialOutcome {
 
 // An iss's checks behind its kind.
 fn iss_answer(g: RegistryState, a: Attempt, s: &[u8]) -> Answer
-    requires { ⌜ Anchored (now (s .entry)) a ⌝ }
+    requires { ⌜ Anchored (now s) a ⌝ }
     ensures { λ r. ⌜ r ≡ issAnswer (viewRegistry g) (a .event .said) (a .event .credential) (a .event .registry) (viewAttempt (now (s .entry)) a) ⌝ }
 {
     let zero = Sn { hi: 0, lo: 0 };
@@ -51,11 +51,12 @@ fn iss_answer(g: RegistryState, a: Attempt, s: &[u8]) -> Answer
 
 // A bis's checks behind its kind.
 fn bis_answer(g: RegistryState, a: Attempt, s: &[u8]) -> Answer
-    requires { ⌜ Anchored (now (s .entry)) a ⌝ }
+    requires { ⌜ Anchored (now s) a ⌝ }
     ensures { λ r. ⌜ r ≡ bisAnswer (viewRegistry g) (a .event .said) (a .event .credential) (a .event .registry) (a .event .seal) (viewAttempt (now (s .entry)) a) ⌝ }
 {
     let zero = Sn { hi: 0, lo: 0 };
-    let seal = a.event.seal;
+    let e = a.event;
+    let seal = e.seal;
     let routed = accept_if(
         a.event.registry.same(g.id),
         RegistryRejection::InconsistentRegistry,
@@ -73,10 +74,12 @@ fn bis_answer(g: RegistryState, a: Attempt, s: &[u8]) -> Answer
 }
 
 fn incept_event(g: RegistryState, a: Attempt, s: &[u8]) -> Answer
-    requires { ⌜ Anchored (now (s .entry)) a ⌝ }
+    requires { ⌜ Anchored (now s) a ⌝ }
     ensures { λ r. ⌜ r ≡ inceptEvent (viewRegistry g) (viewEvent (a .event)) (viewAttempt (now (s .entry)) a) ⌝ }
 {
-    match a.event.kind {
+    let e = a.event;
+    let kind = e.kind;
+    match kind {
         Kind::Vcp => Answer::Rejected(RegistryRejection::NotCredentialInception),
         Kind::Vrt => Answer::Rejected(RegistryRejection::NotCredentialInception),
         Kind::Iss => iss_answer(g, a, s),
@@ -98,7 +101,8 @@ fn issued(registry: Said, e: TelEvent) -> CredentialState
         sn: Sn { hi: 0, lo: 0 },
         head,
     };
-    match e.kind {
+    let kind = e.kind;
+    match kind {
         Kind::Vcp => CredentialState::none(),
         Kind::Vrt => CredentialState::none(),
         Kind::Iss => first,
@@ -109,7 +113,7 @@ fn issued(registry: Said, e: TelEvent) -> CredentialState
 }
 
 fn incept_outcome(g: RegistryState, a: Attempt, s: &[u8]) -> CredentialOutcome
-    requires { ⌜ Anchored (now (s .entry)) a ⌝ }
+    requires { ⌜ Anchored (now s) a ⌝ }
     ensures { λ r. ⌜ viewOutcome r ≡ inceptMessage (viewRegistry g) (viewAttempt (now (s .entry)) a) ⌝ }
 {
     let answer = incept_event(g, a, s);
@@ -158,7 +162,7 @@ fn transition(w: CredentialState, credential: Said, prior: Said) -> Answer
 
 // A rev's checks behind its kind.
 fn rev_answer(g: RegistryState, w: CredentialState, a: Attempt, s: &[u8]) -> Answer
-    requires { ⌜ Anchored (now (s .entry)) a ⌝ }
+    requires { ⌜ Anchored (now s) a ⌝ }
     ensures { λ r. ⌜ r ≡ revAnswer (viewRegistry g) w (a .event .said) (a .event .credential) (a .event .registry) (a .event .prior) (viewAttempt (now (s .entry)) a) ⌝ }
 {
     let one = Sn { hi: 0, lo: 1 };
@@ -180,11 +184,12 @@ fn rev_answer(g: RegistryState, w: CredentialState, a: Attempt, s: &[u8]) -> Ans
 
 // A brv's checks behind its kind.
 fn brv_answer(g: RegistryState, w: CredentialState, a: Attempt, s: &[u8]) -> Answer
-    requires { ⌜ Anchored (now (s .entry)) a ⌝ }
+    requires { ⌜ Anchored (now s) a ⌝ }
     ensures { λ r. ⌜ r ≡ brvAnswer (viewRegistry g) w (a .event .said) (a .event .credential) (a .event .prior) (a .event .seal) (viewAttempt (now (s .entry)) a) ⌝ }
 {
     let one = Sn { hi: 0, lo: 1 };
-    let seal = a.event.seal;
+    let e = a.event;
+    let seal = e.seal;
     let routed = accept_if(
         names_registry(seal, g.id),
         RegistryRejection::InconsistentRegistry,
@@ -201,10 +206,12 @@ fn brv_answer(g: RegistryState, w: CredentialState, a: Attempt, s: &[u8]) -> Ans
 }
 
 fn ingest_event(g: RegistryState, w: CredentialState, a: Attempt, s: &[u8]) -> Answer
-    requires { ⌜ Anchored (now (s .entry)) a ⌝ }
+    requires { ⌜ Anchored (now s) a ⌝ }
     ensures { λ r. ⌜ r ≡ ingestEvent (viewRegistry g) w (viewEvent (a .event)) (viewAttempt (now (s .entry)) a) ⌝ }
 {
-    match a.event.kind {
+    let e = a.event;
+    let kind = e.kind;
+    match kind {
         Kind::Vcp => Answer::Rejected(RegistryRejection::NotCredentialTransition),
         Kind::Vrt => Answer::Rejected(RegistryRejection::NotCredentialTransition),
         Kind::Iss => Answer::Rejected(RegistryRejection::NotCredentialTransition),
@@ -215,7 +222,7 @@ fn ingest_event(g: RegistryState, w: CredentialState, a: Attempt, s: &[u8]) -> A
 }
 
 fn ingest_outcome(g: RegistryState, w: CredentialState, a: Attempt, s: &[u8]) -> CredentialOutcome
-    requires { ⌜ Anchored (now (s .entry)) a ⌝ }
+    requires { ⌜ Anchored (now s) a ⌝ }
     ensures { λ r. ⌜ viewOutcome r ≡ ingestMessage (viewRegistry g) w (viewAttempt (now (s .entry)) a) ⌝ }
 {
     let held = accept_if(

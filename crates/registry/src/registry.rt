@@ -52,7 +52,7 @@ fn threshold_fits(toad: Toad, backers: Members) -> Answer
 
 // A vcp's checks behind its kind.
 fn vcp_answer(a: Attempt, s: &[u8]) -> Answer
-    requires { ⌜ Anchored (now (s .entry)) a ⌝ }
+    requires { ⌜ Anchored (now s) a ⌝ }
     ensures { λ r. ⌜ r ≡ vcpAnswer (a .event .said) (a .event .issuer) (a .event .toad .0) (viewConfigs (a .event .configs)) (view (a .event .backers)) (viewAttempt (now (s .entry)) a) ⌝ }
 {
     let issuer = a.event.issuer;
@@ -75,10 +75,12 @@ fn vcp_answer(a: Attempt, s: &[u8]) -> Answer
 }
 
 fn incept_event(a: Attempt, s: &[u8]) -> Answer
-    requires { ⌜ Anchored (now (s .entry)) a ⌝ }
+    requires { ⌜ Anchored (now s) a ⌝ }
     ensures { λ r. ⌜ r ≡ inceptEvent (viewEvent (a .event)) (viewAttempt (now (s .entry)) a) ⌝ }
 {
-    match a.event.kind {
+    let e = a.event;
+    let kind = e.kind;
+    match kind {
         Kind::Vcp => vcp_answer(a, s),
         Kind::Vrt => Answer::Rejected(RegistryRejection::NotRegistryInception),
         Kind::Iss => Answer::Rejected(RegistryRejection::NotRegistryInception),
@@ -93,7 +95,8 @@ fn incepted(e: TelEvent) -> RegistryState
     ensures view { λ r. ⌜ viewRegistry r ≡ incepted (viewEvent e) ⌝ }
     ensures counts { λ r. ⌜ (r .configs .count ≤ 8) × (r .backers .count ≤ 16) ⌝ }
 {
-    match e.kind {
+    let kind = e.kind;
+    match kind {
         Kind::Vcp => {
             let said = e.said;
             let issuer = e.issuer;
@@ -119,7 +122,7 @@ fn incepted(e: TelEvent) -> RegistryState
 }
 
 fn incept_outcome(a: Attempt, s: &[u8]) -> RegistryOutcome
-    requires { ⌜ Anchored (now (s .entry)) a ⌝ }
+    requires { ⌜ Anchored (now s) a ⌝ }
     ensures view { λ r. ⌜ viewOutcome r ≡ inceptMessage (viewAttempt (now (s .entry)) a) ⌝ }
     ensures counts { λ r. ⌜ (r .state .configs .count ≤ 8) × (r .state .backers .count ≤ 16) ⌝ }
 {
@@ -176,7 +179,7 @@ fn vrt_backers(current: Members, a: Attempt, s: &[u8]) -> Rotation
 
 // A vrt's checks behind its kind; backers is what the last five of them answer.
 fn vrt_answer(g: RegistryState, a: Attempt, s: &[u8], backers: Answer) -> Answer
-    requires { ⌜ Anchored (now (s .entry)) a × (backers ≡ vrtBackers (view (g .backers)) (a .event .toad .0) (view (a .event .backers)) (view (a .event .additions)) (signaturesIn (now (s .entry)) (a .signatures))) ⌝ }
+    requires { ⌜ Anchored (now s) a × (backers ≡ vrtBackers (view (g .backers)) (a .event .toad .0) (view (a .event .backers)) (view (a .event .additions)) (signaturesIn (now s) (a .signatures))) ⌝ }
     ensures { λ r. ⌜ r ≡ vrtAnswer (viewRegistry g) (a .event .said) (a .event .registry) (a .event .prior) (a .event .sn) (a .event .toad .0) (view (a .event .backers)) (view (a .event .additions)) (viewAttempt (now (s .entry)) a) ⌝ }
 {
     let sn = a.event.sn;
@@ -200,11 +203,12 @@ fn vrt_answer(g: RegistryState, a: Attempt, s: &[u8], backers: Answer) -> Answer
 
 // A vrt's answer, and the state that it leaves: id, issuer and config stay.
 fn rotate(g: RegistryState, a: Attempt, s: &[u8]) -> RegistryOutcome
-    requires { ⌜ Anchored (now (s .entry)) a × (a .event .kind ≡ Vrt) ⌝ }
+    requires { ⌜ Anchored (now s) a × (a .event .kind ≡ Vrt) ⌝ }
     ensures { λ r. ⌜ Ingested (now (s .entry)) g a r ⌝ }
 {
     let rotation = vrt_backers(g.backers, a, s);
-    let answer = vrt_answer(g, a, s, rotation.answer);
+    let late = rotation.answer;
+    let answer = vrt_answer(g, a, s, late);
     if accepts(answer) {
         let id = g.id;
         let issuer = g.issuer;
@@ -238,10 +242,12 @@ fn refused(g: RegistryState, refusal: RegistryRejection) -> RegistryOutcome
 }
 
 fn ingest_event(g: RegistryState, a: Attempt, s: &[u8]) -> RegistryOutcome
-    requires { ⌜ Anchored (now (s .entry)) a ⌝ }
+    requires { ⌜ Anchored (now s) a ⌝ }
     ensures { λ r. ⌜ Ingested (now (s .entry)) g a r ⌝ }
 {
-    match a.event.kind {
+    let e = a.event;
+    let kind = e.kind;
+    match kind {
         Kind::Vcp => refused(g, RegistryRejection::DuplicateInception),
         Kind::Vrt => rotate(g, a, s),
         Kind::Iss => refused(g, RegistryRejection::NotManagementRotation),
