@@ -1,0 +1,3 @@
+pub mod Reports
+pub mod Judgement
+pub mod Counting

@@ -1,0 +1,82 @@
+// What a record has: the states that are handed in, and what is found of the case.
+use crate::report::rejected;
+use crate::report::same_told;
+use codec::cursor::Cursor;
+use registry_error::error::RegistryRejection;
+use registry_state::state::CredentialState;
+use registry_state::state::RegistryState;
+ghost use mathlib.Core.Path.{_≡_};
+ghost use Rattle.laws.specs.Words.{sameList};
+ghost use Rattle.registry_state.specs.States.{viewRegistry, wellRegistry};
+ghost use Rattle.folds.specs.Judgement.{registryIn, credentialIn, viewRegistryPart, viewCredentialPart, wellView, unread};
+
+// What is found of a case.
+pub struct Finding {
+    pub agrees: bool,
+    // Whether the states in its record can be read.
+    pub read: bool,
+}
+
+// A state in a record, and whether its bytes are such a state and nothing else.
+pub struct RegistryPart {
+    pub ok: bool,
+    pub value: RegistryState,
+}
+
+pub struct CredentialPart {
+    pub ok: bool,
+    pub value: CredentialState,
+}
+
+pub(crate) fn same(a: &[u8], b: &[u8]) -> bool
+    ensures { λ r. ⌜ r ≡ sameList (now (a .entry)) (now (b .entry)) ⌝ }
+{
+    check::same(a, b)
+}
+
+// Its counts are those of its lists, so that its bytes alone tell what it is.
+pub(crate) fn read_registry(s: &[u8]) -> RegistryPart
+    ensures view { λ r. ⌜ viewRegistryPart r ≡ registryIn (now (s .entry)) ⌝ }
+    ensures well { λ r. ⌜ wellRegistry (r .value) ≡ wellView (viewRegistry (r .value)) ⌝ }
+{
+    let r = RegistryState::read(Cursor::start(), s);
+    let ok = r.next.ok & (r.next.at == s.len());
+    let g = r.value;
+    let id = g.id;
+    let issuer = g.issuer;
+    let sn = g.sn;
+    let latest = g.latest;
+    let toad = g.toad;
+    let configs = g.configs.trimmed();
+    let backers = g.backers.trimmed();
+    let value = RegistryState {
+        id,
+        issuer,
+        sn,
+        latest,
+        toad,
+        configs,
+        backers,
+    };
+    RegistryPart { ok, value }
+}
+
+pub(crate) fn read_credential(s: &[u8]) -> CredentialPart
+    ensures { λ r. ⌜ viewCredentialPart r ≡ credentialIn (now (s .entry)) ⌝ }
+{
+    let r = CredentialState::read(Cursor::start(), s);
+    let ok = r.next.ok & (r.next.at == s.len());
+    let value = r.value;
+    CredentialPart { ok, value }
+}
+
+// A state that is no state can't be handed in as a value, so its reader's verdict is the answer: 1.
+pub(crate) fn unread(expected: &[u8]) -> Finding
+    ensures { λ r. ⌜ r ≡ unread (now (expected .entry)) ⌝ }
+{
+    let agrees = same_told(rejected(RegistryRejection::Malformed), expected);
+    Finding {
+        agrees,
+        read: false,
+    }
+}
