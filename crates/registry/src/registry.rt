@@ -26,7 +26,7 @@ ghost use mathlib.Core.Bool.{true, false};
 ghost use Rattle.events.specs.Configs.{viewConfigs};
 ghost use Rattle.events.specs.Members.{view};
 ghost use Rattle.events.specs.TelEvents.{viewEvent};
-ghost use Rattle.events.specs.declared.tel.Kind.the-variants.{Vrt};
+ghost use Rattle.events.specs.declared.tel.Kind.the-variants.{Vcp, Vrt};
 ghost use Rattle.registry_state.specs.States.{viewRegistry, wellRegistry};
 ghost use Rattle.registry_wire.specs.Attempts.{viewAttempt, signaturesIn};
 ghost use Rattle.registry_error.specs.declared.error.Answer.the-variants.{Rejected};
@@ -90,41 +90,31 @@ fn incept_event(a: Attempt, s: &[u8]) -> Answer
     }
 }
 
-// The state that an inception leaves: blank for another kind.
+// The state that a vcp leaves.
 fn incepted(e: TelEvent) -> RegistryState
-    ensures view { λ r. ⌜ viewRegistry r ≡ incepted (viewEvent e) ⌝ }
+    ensures view { λ r. ⌜ (e .kind ≡ Vcp → viewRegistry r ≡ incepted (viewEvent e)) ⌝ }
     ensures counts { λ r. ⌜ (r .configs .count ≤ 8) × (r .backers .count ≤ 16) ⌝ }
 {
-    let kind = e.kind;
-    match kind {
-        Kind::Vcp => {
-            let said = e.said;
-            let issuer = e.issuer;
-            let toad = e.toad;
-            let configs = e.configs.trimmed();
-            let backers = e.backers.trimmed();
-            RegistryState {
-                id: said,
-                issuer,
-                sn: Sn { hi: 0, lo: 0 },
-                latest: said,
-                toad,
-                configs,
-                backers,
-            }
-        }
-        Kind::Vrt => RegistryState::none(),
-        Kind::Iss => RegistryState::none(),
-        Kind::Rev => RegistryState::none(),
-        Kind::Bis => RegistryState::none(),
-        Kind::Brv => RegistryState::none(),
+    let said = e.said;
+    let issuer = e.issuer;
+    let toad = e.toad;
+    let configs = e.configs.trimmed();
+    let backers = e.backers.trimmed();
+    RegistryState {
+        id: said,
+        issuer,
+        sn: Sn { hi: 0, lo: 0 },
+        latest: said,
+        toad,
+        configs,
+        backers,
     }
 }
 
 fn incept_outcome(a: Attempt, s: &[u8]) -> RegistryOutcome
     requires { ⌜ Anchored (now s) a ⌝ }
     ensures view { λ r. ⌜ viewOutcome r ≡ inceptMessage (viewAttempt (now (s .entry)) a) ⌝ }
-    ensures counts { λ r. ⌜ (r .state .configs .count ≤ 8) × (r .state .backers .count ≤ 16) ⌝ }
+    ensures counts { λ r. ⌜ (accepts (r .answer) ≡ true → (r .state .configs .count ≤ 8) × (r .state .backers .count ≤ 16)) ⌝ }
 {
     let answer = or_else(issuer_kind(a.evidence), incept_event(a, s));
     if accepts(answer) {

@@ -1,41 +1,52 @@
+use denote.Ref.{now}
+use native.Mathlib.Omega.{arith}
+use Rattle.laws.proofs.Tests.{and-left, and-right}
+use Rattle.registry.proofs.AnchorUse.{decoded-good, anchored-parts}
+use mathlib.Core.Path.{sym, _∙_}
+use Rattle.registry.proofs.CredentialLaws.{incept-decoded, incept-malformed}
 use borrow.Author.Needs.{needs}
 use Rattle.registry.proofs.credential_state.incept.Statement.{statement}
 use Rattle.registry.proofs.credential_state.incept.Tie as tie
-use Rattle.registry.proofs.credential_state.incept.Reads as reads
-use Rattle.registry.proofs.credential_state.incept.Lts as lts
-use Rattle.registry.proofs.credential_state.incept_outcome.Reads as incept-outcome-reads
-use Rattle.registry.proofs.credential_state.refused.Reads as refused-reads
-use Rattle.registry_state.proofs.state.CredentialState.none.Reads as none-reads
-use Rattle.registry_state.proofs.state.RegistryState.well_formed.Reads as well-formed-reads
-use Rattle.registry_wire.proofs.attempt.Attempt.decode.Reads as decode-reads
 
--- src/credential_state.rt:142:9
 decode-requires : tie.Need-decode-requires
 decode-requires c κs = search needs
 
--- src/credential_state.rt:143:8
 well-formed-requires : tie.Need-well-formed-requires
 well-formed-requires c κs = search needs
 
--- src/credential_state.rt:144:9
 incept-outcome-requires : tie.Need-incept-outcome-requires
-incept-outcome-requires c κs = ?
+incept-outcome-requires c κs =
+    let b = c .before .before .before in
+    let s = now (b .before .before .args .s) in
+    let r = b .decode .result in
+    let known = b .before .shared-slice-known .given in
+    let ok = and-right (c .before .before .well-formed .result) (r .ok) (c .if1 .taken) in
+    let p = b .decode .ensures .1 ok in
+    anchored-parts s (r .attempt) (decoded-good s r (λ i. omega (arith, known i)) (b .decode .ensures .0) ok) (p .0) (p .1)
 
--- src/credential_state.rt:144:9
 returns : tie.Need-returns
-returns c = ?
+returns c =
+    let b3 = c .before .before .before in
+    let b = b3 .before in
+    let z = b .before .before .args in
+    let r = b .decode .result in
+    let taken = c .before .if1 .taken in
+    let w = sym (b3 .well-formed .ensures) ∙ and-left (b3 .well-formed .result) (r .ok) taken in
+    c .incept-outcome .ensures ∙ sym (incept-decoded (z .g) (now (z .s)) r (b .decode .ensures .0) w (and-right (b3 .well-formed .result) (r .ok) taken))
 
--- src/credential_state.rt:146:13
 none-requires : tie.Need-none-requires
 none-requires c κs = search needs
 
--- src/credential_state.rt:146:5
 refused-requires : tie.Need-refused-requires
 refused-requires c κs = search needs
 
--- src/credential_state.rt:139:1
 returns-2 : tie.Need-returns-2
-returns-2 c = ?
+returns-2 c =
+    let b4 = c .before .before .before .before in
+    let b = b4 .before in
+    let z = b .before .before .args in
+    let left = rw (b4 .well-formed .ensures) at (c .before .before .if1 .left) in
+    c .refused .ensures ∙ rw (c .before .none .ensures) (sym (incept-malformed (z .g) (now (z .s)) (b .decode .result) (b .decode .ensures .0) left))
 
 pub incept-spec : {M : Type 1} → statement M
 incept-spec =

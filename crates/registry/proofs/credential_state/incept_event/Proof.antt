@@ -1,66 +1,59 @@
+use Rattle.events.specs.declared.tel.Kind.{Kind}
+use Rattle.events.specs.TelEvents.{eventAs}
+use Rattle.registry_wire.specs.Attempts.{viewAttempt}
+use denote.Ref.{now}
+use mathlib.Core.Path.{sym, ap, _∙_}
+use Rattle.registry_state.specs.States.{viewRegistry}
+use Rattle.registry.specs.CredentialFolds.{inceptEvent}
 use borrow.Author.Needs.{needs}
 use Rattle.registry.proofs.credential_state.incept_event.Statement.{statement}
 use Rattle.registry.proofs.credential_state.incept_event.Tie as tie
-use Rattle.registry.proofs.credential_state.incept_event.Reads as reads
-use Rattle.registry.proofs.credential_state.incept_event.Lts as lts
-use Rattle.registry.proofs.credential_state.bis_answer.Reads as bis-answer-reads
-use Rattle.registry.proofs.credential_state.iss_answer.Reads as iss-answer-reads
 
--- src/credential_state.rt:83:39
 enum-told : tie.Need-enum-told
 enum-told c = search needs
 
--- src/credential_state.rt:84:39
 enum-told-2 : tie.Need-enum-told-2
 enum-told-2 c = search needs
 
--- src/credential_state.rt:85:22
 enum-told-3 : tie.Need-enum-told-3
 enum-told-3 c = search needs
 
--- src/credential_state.rt:85:22
 iss-answer-requires : tie.Need-iss-answer-requires
 iss-answer-requires c κs = search needs
 
--- src/credential_state.rt:86:39
 enum-told-4 : tie.Need-enum-told-4
 enum-told-4 c = search needs
 
--- src/credential_state.rt:87:22
 enum-told-5 : tie.Need-enum-told-5
 enum-told-5 c = search needs
 
--- src/credential_state.rt:87:22
 bis-answer-requires : tie.Need-bis-answer-requires
 bis-answer-requires c κs = search needs
 
--- src/credential_state.rt:88:39
 enum-told-6 : tie.Need-enum-told-6
 enum-told-6 c = search needs
 
--- src/credential_state.rt:76:1
 returns : tie.Need-returns
-returns c = ?
+returns c = rw (c .enum-told .given .1)
 
--- src/credential_state.rt:76:1
 returns-2 : tie.Need-returns-2
-returns-2 c = ?
+returns-2 c = rw (c .enum-told2 .given .1)
 
--- src/credential_state.rt:76:1
 returns-3 : tie.Need-returns-3
-returns-3 c = ?
+returns-3 c =
+    let z = c .before .before .before .before .before .args in
+    c .iss-answer .ensures ∙ sym (ap (λ (k : Kind). inceptEvent (viewRegistry (z .g)) (eventAs k (z .a .event)) (viewAttempt (now (z .s)) (z .a))) (c .before .enum-told3 .given .1))
 
--- src/credential_state.rt:76:1
 returns-4 : tie.Need-returns-4
-returns-4 c = ?
+returns-4 c = rw (c .enum-told4 .given .1)
 
--- src/credential_state.rt:76:1
 returns-5 : tie.Need-returns-5
-returns-5 c = ?
+returns-5 c =
+    let z = c .before .before .before .before .before .args in
+    c .bis-answer .ensures ∙ sym (ap (λ (k : Kind). inceptEvent (viewRegistry (z .g)) (eventAs k (z .a .event)) (viewAttempt (now (z .s)) (z .a))) (c .before .enum-told5 .given .1))
 
--- src/credential_state.rt:76:1
 returns-6 : tie.Need-returns-6
-returns-6 c = ?
+returns-6 c = rw (c .enum-told6 .given .1)
 
 pub incept-event-spec : {M : Type 1} → statement M
 incept-event-spec =

@@ -1,71 +1,52 @@
 use borrow.Author.Needs.{needs}
 use Rattle.registry.proofs.credential_state.issued.Statement.{statement}
 use Rattle.registry.proofs.credential_state.issued.Tie as tie
-use Rattle.registry.proofs.credential_state.issued.Reads as reads
-use Rattle.registry.proofs.credential_state.issued.Lts as lts
-use Rattle.registry_state.proofs.state.CredentialState.none.Reads as none-reads
 
--- src/credential_state.rt:106:22
 enum-told : tie.Need-enum-told
 enum-told c = search needs
 
--- src/credential_state.rt:106:22
 none-requires : tie.Need-none-requires
 none-requires c κs = search needs
 
--- src/credential_state.rt:107:22
 enum-told-2 : tie.Need-enum-told-2
 enum-told-2 c = search needs
 
--- src/credential_state.rt:107:22
 none-requires-2 : tie.Need-none-requires-2
 none-requires-2 c κs = search needs
 
--- src/credential_state.rt:108:22
 enum-told-3 : tie.Need-enum-told-3
 enum-told-3 c = search needs
 
--- src/credential_state.rt:109:22
 enum-told-4 : tie.Need-enum-told-4
 enum-told-4 c = search needs
 
--- src/credential_state.rt:109:22
 none-requires-3 : tie.Need-none-requires-3
 none-requires-3 c κs = search needs
 
--- src/credential_state.rt:110:22
 enum-told-5 : tie.Need-enum-told-5
 enum-told-5 c = search needs
 
--- src/credential_state.rt:111:22
 enum-told-6 : tie.Need-enum-told-6
 enum-told-6 c = search needs
 
--- src/credential_state.rt:111:22
 none-requires-4 : tie.Need-none-requires-4
 none-requires-4 c κs = search needs
 
--- src/credential_state.rt:93:1
 returns : tie.Need-returns
 returns c = search needs
 
--- src/credential_state.rt:93:1
 returns-2 : tie.Need-returns-2
 returns-2 c = search needs
 
--- src/credential_state.rt:93:1
 returns-3 : tie.Need-returns-3
-returns-3 c = ?
+returns-3 c = rw (c .enum-told3 .given .1)
 
--- src/credential_state.rt:93:1
 returns-4 : tie.Need-returns-4
 returns-4 c = search needs
 
--- src/credential_state.rt:93:1
 returns-5 : tie.Need-returns-5
-returns-5 c = ?
+returns-5 c = rw (c .enum-told5 .given .1)
 
--- src/credential_state.rt:93:1
 returns-6 : tie.Need-returns-6
 returns-6 c = search needs
 

@@ -1,61 +1,53 @@
+use Rattle.events.specs.declared.tel.Kind.{Kind}
+use Rattle.events.specs.TelEvents.{eventAs}
+use Rattle.registry_wire.specs.Attempts.{viewAttempt}
+use denote.Ref.{now}
+use mathlib.Core.Path.{sym, ap, _∙_}
+use Rattle.registry.specs.RegistryFolds.{inceptEvent}
 use borrow.Author.Needs.{needs}
 use Rattle.registry.proofs.registry.incept_event.Statement.{statement}
 use Rattle.registry.proofs.registry.incept_event.Tie as tie
-use Rattle.registry.proofs.registry.incept_event.Reads as reads
-use Rattle.registry.proofs.registry.incept_event.Lts as lts
-use Rattle.registry.proofs.registry.vcp_answer.Reads as vcp-answer-reads
 
--- src/registry.rt:84:22
 enum-told : tie.Need-enum-told
 enum-told c = search needs
 
--- src/registry.rt:84:22
 vcp-answer-requires : tie.Need-vcp-answer-requires
 vcp-answer-requires c κs = search needs
 
--- src/registry.rt:85:39
 enum-told-2 : tie.Need-enum-told-2
 enum-told-2 c = search needs
 
--- src/registry.rt:86:39
 enum-told-3 : tie.Need-enum-told-3
 enum-told-3 c = search needs
 
--- src/registry.rt:87:39
 enum-told-4 : tie.Need-enum-told-4
 enum-told-4 c = search needs
 
--- src/registry.rt:88:39
 enum-told-5 : tie.Need-enum-told-5
 enum-told-5 c = search needs
 
--- src/registry.rt:89:39
 enum-told-6 : tie.Need-enum-told-6
 enum-told-6 c = search needs
 
--- src/registry.rt:77:1
 returns : tie.Need-returns
-returns c = ?
+returns c =
+    let z = c .before .before .before .before .before .args in
+    c .vcp-answer .ensures ∙ sym (ap (λ (k : Kind). inceptEvent (eventAs k (z .a .event)) (viewAttempt (now (z .s)) (z .a))) (c .before .enum-told .given .1))
 
--- src/registry.rt:77:1
 returns-2 : tie.Need-returns-2
-returns-2 c = ?
+returns-2 c = rw (c .enum-told2 .given .1)
 
--- src/registry.rt:77:1
 returns-3 : tie.Need-returns-3
-returns-3 c = ?
+returns-3 c = rw (c .enum-told3 .given .1)
 
--- src/registry.rt:77:1
 returns-4 : tie.Need-returns-4
-returns-4 c = ?
+returns-4 c = rw (c .enum-told4 .given .1)
 
--- src/registry.rt:77:1
 returns-5 : tie.Need-returns-5
-returns-5 c = ?
+returns-5 c = rw (c .enum-told5 .given .1)
 
--- src/registry.rt:77:1
 returns-6 : tie.Need-returns-6
-returns-6 c = ?
+returns-6 c = rw (c .enum-told6 .given .1)
 
 pub incept-event-spec : {M : Type 1} → statement M
 incept-event-spec =

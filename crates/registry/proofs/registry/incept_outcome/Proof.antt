@@ -1,46 +1,56 @@
+use denote.Ref.{now}
+use mathlib.Core.Path.{_≡_, sym, _∙_}
+use mathlib.Core.Bool.{true, false, false≢true}
+use Rattle.events.specs.declared.tel.Kind.the-variants.{Vcp}
+use Rattle.registry_state.specs.States.{viewRegistry}
+use Rattle.registry_wire.specs.Attempts.{viewAttempt}
+use Rattle.registry_error.specs.Answers.{accepts}
+use Rattle.registry.specs.RegistryFolds.{inceptAnswer}
+use Rattle.registry.proofs.RegistryLaws.{incept-kind, incept-accepted, incept-refused}
 use borrow.Author.Needs.{needs}
 use Rattle.registry.proofs.registry.incept_outcome.Statement.{statement}
 use Rattle.registry.proofs.registry.incept_outcome.Tie as tie
-use Rattle.registry.proofs.registry.incept_outcome.Reads as reads
-use Rattle.registry.proofs.registry.incept_outcome.Lts as lts
-use Rattle.registry.proofs.registry.incept_event.Reads as incept-event-reads
-use Rattle.registry.proofs.registry.incepted.Reads as incepted-reads
-use Rattle.registry_authentication.proofs.issuer.issuer_kind.Reads as issuer-kind-reads
-use Rattle.registry_error.proofs.answer.accepts.Reads as accepts-reads
-use Rattle.registry_error.proofs.answer.or_else.Reads as or-else-reads
-use Rattle.registry_state.proofs.state.RegistryState.none.Reads as none-reads
 
--- src/registry.rt:129:26
 issuer-kind-requires : tie.Need-issuer-kind-requires
 issuer-kind-requires c κs = search needs
 
--- src/registry.rt:129:51
 incept-event-requires : tie.Need-incept-event-requires
 incept-event-requires c κs = search needs
 
--- src/registry.rt:129:9
 or-else-requires : tie.Need-or-else-requires
 or-else-requires c κs = search needs
 
--- src/registry.rt:130:8
 accepts-requires : tie.Need-accepts-requires
 accepts-requires c κs = search needs
 
--- src/registry.rt:131:13
 incepted-requires : tie.Need-incepted-requires
 incepted-requires c κs = search needs
 
--- src/registry.rt:132:9
 returns : tie.Need-returns
-returns c = ?
+unfolding inceptAnswer
+returns c =
+    let b3 = c .before .before .before in
+    let b7 = b3 .before .before .before .before in
+    let a = b7 .args .a in
+    let s = now (b7 .args .s) in
+    let e : b3 .or-else .result ≡ inceptAnswer (viewAttempt s a) = rw (b3 .or-else .ensures, b3 .before .incept-event .ensures, b3 .before .before .issuer-kind .ensures s (a .issuer) (a .carried) (a .management)) in
+    let h : accepts (b3 .or-else .result) ≡ true = sym (c .before .before .accepts .ensures) ∙ c .before .if1 .taken in
+    let k : a .event .kind ≡ Vcp = incept-kind s a (rw e at h) in
+    (incept-accepted (viewAttempt s a) (b3 .or-else .result) (viewRegistry (c .incepted .result)) e h (c .incepted .ensures .0 k), (λ z. c .incepted .ensures .1))
 
--- src/registry.rt:134:9
 none-requires : tie.Need-none-requires
 none-requires c κs = search needs
 
--- src/registry.rt:124:1
 returns-2 : tie.Need-returns-2
-returns-2 c = ?
+unfolding inceptAnswer
+returns-2 c =
+    let b3 = c .before .before .before in
+    let b7 = b3 .before .before .before .before in
+    let a = b7 .args .a in
+    let s = now (b7 .args .s) in
+    let e : b3 .or-else .result ≡ inceptAnswer (viewAttempt s a) = rw (b3 .or-else .ensures, b3 .before .incept-event .ensures, b3 .before .before .issuer-kind .ensures s (a .issuer) (a .carried) (a .management)) in
+    let h : accepts (b3 .or-else .result) ≡ false = sym (c .before .before .accepts .ensures) ∙ c .before .if1 .left in
+    (incept-refused (viewAttempt s a) (b3 .or-else .result) (viewRegistry (c .none .result)) e h (c .none .ensures), (λ z. absurd (false≢true (sym h ∙ z))))
 
 pub incept-outcome-spec : {M : Type 1} → statement M
 incept-outcome-spec =

@@ -1,77 +1,104 @@
+use lib.ListN.{length}
+use Rattle.events.specs.Members.{view, checkDeltas, checkCurrent}
+use Rattle.registry_error.specs.Answers.{acceptIf, backerSet, orElse, firstOf}
+use Rattle.registry_error.specs.declared.error.Answer.the-variants.{Accepted}
+use Rattle.registry_error.specs.declared.error.RegistryRejection.the-variants.{TooManyBackers}
+use Rattle.registry_authentication.specs.Backers.{enoughReceipts}
+use Rattle.registry.specs.RegistryFolds.{vrtBackers, thresholdFits}
+use denote.Ref.{now}
+use mathlib.Core.Path.{_≡_, _∙_}
+use mathlib.Core.Bool.{cond}
+use Rattle.registry_wire.specs.Attempts.{signaturesIn}
+use Rattle.registry_verification.specs.Updated.{updatedMembers}
+use Rattle.registry.proofs.RegistryLaws.{limit-chain, limit-list}
 use borrow.Author.Needs.{needs}
 use Rattle.registry.proofs.registry.vrt_backers.Statement.{statement}
 use Rattle.registry.proofs.registry.vrt_backers.Tie as tie
-use Rattle.registry.proofs.registry.vrt_backers.Reads as reads
-use Rattle.registry.proofs.registry.vrt_backers.Lts as lts
-use Rattle.events.proofs.member_set.MemberSet.check_current.Reads as check-current-reads
-use Rattle.events.proofs.member_set.MemberSet.check_deltas.Reads as check-deltas-reads
-use Rattle.events.proofs.member_set.Members.trimmed.Reads as trimmed-reads
-use Rattle.registry.proofs.registry.threshold_fits.Reads as threshold-fits-reads
-use Rattle.registry_authentication.proofs.backer.enough_receipts.Reads as enough-receipts-reads
-use Rattle.registry_error.proofs.answer.accept_if.Reads as accept-if-reads
-use Rattle.registry_error.proofs.answer.backer_set.Reads as backer-set-reads
-use Rattle.registry_error.proofs.answer.or_else.Reads as or-else-reads
-use Rattle.registry_verification.proofs.state.updated_members.Reads as updated-members-reads
 
--- src/registry.rt:168:29
 check-deltas-requires : tie.Need-check-deltas-requires
 check-deltas-requires c κs = search needs
 
--- src/registry.rt:168:9
 backer-set-requires : tie.Need-backer-set-requires
 backer-set-requires c κs = search needs
 
--- src/registry.rt:169:30
 check-current-requires : tie.Need-check-current-requires
 check-current-requires c κs = search needs
 
--- src/registry.rt:169:9
 backer-set-requires-2 : tie.Need-backer-set-requires-2
 backer-set-requires-2 c κs = search needs
 
--- src/registry.rt:170:9
 updated-members-requires : tie.Need-updated-members-requires
 updated-members-requires c κs = search needs
 
--- src/registry.rt:171:9
 accept-if-requires : tie.Need-accept-if-requires
 accept-if-requires c κs = search needs
 
--- src/registry.rt:172:9
 trimmed-requires : tie.Need-trimmed-requires
 trimmed-requires c κs = search needs
 
--- src/registry.rt:173:9
 threshold-fits-requires : tie.Need-threshold-fits-requires
 threshold-fits-requires c κs = search needs
 
--- src/registry.rt:174:9
 enough-receipts-requires : tie.Need-enough-receipts-requires
 enough-receipts-requires c κs = search needs
 
--- src/registry.rt:175:35
 or-else-requires : tie.Need-or-else-requires
 or-else-requires c κs = search needs
 
--- src/registry.rt:175:9
 or-else-requires-2 : tie.Need-or-else-requires-2
 or-else-requires-2 c κs = search needs
 
--- src/registry.rt:176:51
 or-else-requires-3 : tie.Need-or-else-requires-3
 or-else-requires-3 c κs = search needs
 
--- src/registry.rt:176:34
 or-else-requires-4 : tie.Need-or-else-requires-4
 or-else-requires-4 c κs = search needs
 
--- src/registry.rt:176:9
 or-else-requires-5 : tie.Need-or-else-requires-5
 or-else-requires-5 c κs = search needs
 
--- src/registry.rt:160:1
 returns : tie.Need-returns
-returns c = ?
+unfolding vrtBackers firstOf
+returns c =
+    let b3 = c .before .before .before in
+    let b6 = b3 .before .before .before in
+    let b9 = b6 .before .before .before in
+    let b12 = b9 .before .before .before in
+    let z = b12 .before .before .before .before .before .before .args in
+    let e = z .a .event in
+    let toad = e .toad .0 in
+    let cuts = view (e .backers) in
+    let additions = view (e .additions) in
+    let u = updatedMembers (view (z .current)) cuts additions in
+    let after = b9 .updated-members .result in
+    let v = view (b6 .before .trimmed .result) in
+    let w : v ≡ cond (after .ok) u (view (z .current)) = b6 .before .trimmed .ensures .0 ∙ b9 .updated-members .ensures .1 in
+    let l = signaturesIn (now (z .s)) (z .a .signatures) in
+    let deltas = backerSet (checkDeltas cuts additions) in
+    let members = backerSet (checkCurrent (view (z .current)) cuts additions) in
+    let rest = orElse (thresholdFits toad v) (orElse (enoughReceipts toad (length v) l) Accepted) in
+    let x : c .or-else5 .result ≡ orElse deltas (orElse members (orElse (acceptIf (after .ok) TooManyBackers) rest)) =
+    rw (
+      c .or-else5 .ensures,
+      c .before .or-else4 .ensures,
+      c .before .before .or-else3 .ensures,
+      b3 .or-else2 .ensures,
+      b3 .before .or-else .ensures,
+      b3 .before .before .enough-receipts .ensures,
+      b6 .threshold-fits .ensures,
+      b6 .before .before .accept-if .ensures,
+      b9 .before .backer-set2 .ensures,
+      b9 .before .before .check-current .ensures .0,
+      b12 .backer-set .ensures,
+      b12 .before .check-deltas .ensures .0,
+    ) in
+    let chain = limit-chain (after .ok) toad u v (view (z .current)) l w in (
+      x ∙ rw (chain, ← b9 .updated-members .ensures .0),
+      (
+        (λ h. limit-list deltas members rest (after .ok) u v (view (z .current)) w (rw x at h)),
+        b6 .before .trimmed .ensures .1,
+      ),
+    )
 
 pub vrt-backers-spec : {M : Type 1} → statement M
 vrt-backers-spec =

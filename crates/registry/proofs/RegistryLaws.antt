@@ -1,0 +1,156 @@
+-- The folds of a registry over decoded attempts.
+--     incept-kind, vrt-lists      what an accepted attempt was, and which of its checks passed
+--     limit-chain, limit-list     the members after a rotation, or, where they are too many, the refusal alone
+--     incept-lettered, ingest-lettered   an accepted attempt leaves a state with the letters and bytes of its places
+use Prim.Native.Nat.{ℕ}
+use mathlib.Core.Path.{_≡_, refl, sym, ap, subst, _∙_}
+use mathlib.Core.List.{List, [], _∷_}
+use mathlib.Core.Bool.{Bool, true, false, not, cond, _&&_, false≢true}
+use lib.Dec.{leb}
+use lib.ListN.{length}
+use Rattle.laws.proofs.Tests.{and-left}
+use Rattle.cesr.specs.Primitives.{eqSaid}
+use Rattle.cesr.specs.declared.number.Sn.{Sn}
+use Rattle.cesr.specs.declared.primitive.Said.{Said}
+use Rattle.cesr.specs.declared.primitive.BasicPrefix.{BasicPrefix}
+use Rattle.events.specs.Configs.{noBackers}
+use Rattle.events.specs.TelEvents.{Event, eventAs}
+use Rattle.events.specs.TelEvents.Event.{vcp, vrt, iss, rev, bis, brv}
+use Rattle.events.specs.declared.tel.Kind.{Kind}
+use Rattle.events.specs.declared.tel.Kind.the-variants.{Vcp, Vrt, Iss, Rev, Bis, Brv}
+use Rattle.events.specs.declared.tel.TelEvent.{TelEvent}
+use Rattle.codec.specs.Layout.{all, goodEvent}
+use Rattle.registry_state.specs.States.{Registry, viewRegistry, wellRegistry, noRegistry}
+use Rattle.registry_state.specs.declared.state.RegistryState.{RegistryState}
+use Rattle.registry_wire.specs.Attempts.{Message, Signature, goodSource, goodAnchors, goodSignature, goodEvidence, goodMessage, viewAttempt, viewDecoded, decodeOf}
+use Rattle.registry_wire.specs.declared.attempt.Attempt.{Attempt}
+use Rattle.registry_wire.specs.declared.attempt.DecodedAttempt.{DecodedAttempt}
+use Rattle.registry_error.specs.Answers.{accepts, acceptIf, orElse, firstOf}
+use Rattle.registry_error.specs.declared.error.Answer.{Answer}
+use Rattle.registry_error.specs.declared.error.Answer.the-variants.{Accepted, Rejected}
+use Rattle.registry_error.specs.declared.error.RegistryRejection.{RegistryRejection}
+use Rattle.registry_error.specs.declared.error.RegistryRejection.the-variants.{Malformed, TooManyBackers, InconsistentRegistry, RotationOnBackerlessRegistry, PriorDigestMismatch}
+use Rattle.registry_authentication.specs.Issuers.{issuerKind, authenticateIssuer}
+use Rattle.registry_authentication.specs.Backers.{enoughReceipts}
+use Rattle.registry.specs.RegistryFolds.{Outcome, thresholdFits, nextSn, inceptEvent, inceptAnswer, incepted, inceptMessage, inceptOf, vrtBackers, vrtAnswer, ingestEvent, rotated, ingestMessage, ingestOf, viewOutcome, Ingested}
+use Rattle.registry.specs.declared.registry.RegistryOutcome.{RegistryOutcome}
+use Rattle.registry.proofs.AnswerLaws.{or-first, or-second, passed}
+use Rattle.registry.proofs.WellLaws.{Lettered, good-incepted, good-rotated}
+
+pub good-event : (m : Message) → goodMessage m ≡ true → goodEvent (m .event) ≡ true
+unfolding goodMessage
+good-event m g =
+    and-left (goodEvent (m .event)) ((leb (length (m .source)) 1 && all goodSource (m .source)) && (goodAnchors (m .anchor) && ((leb (length (m .signatures)) 64 && all goodSignature (m .signatures)) && goodEvidence (m .evidence)))) g
+
+-- inceptions
+incept-kind-by : (k : Kind) (e : TelEvent) (m : Message) → accepts (inceptEvent (eventAs k e) m) ≡ true → k ≡ Vcp
+incept-kind-by Vcp e m h = refl
+incept-kind-by Vrt e m h = absurd (false≢true h)
+incept-kind-by Iss e m h = absurd (false≢true h)
+incept-kind-by Rev e m h = absurd (false≢true h)
+incept-kind-by Bis e m h = absurd (false≢true h)
+incept-kind-by Brv e m h = absurd (false≢true h)
+
+pub incept-kind : (s : List ℕ) (a : Attempt) → accepts (inceptAnswer (viewAttempt s a)) ≡ true → a .event .kind ≡ Vcp
+unfolding inceptAnswer
+incept-kind s a h =
+    let m = viewAttempt s a in
+    incept-kind-by (a .event .kind) (a .event) m (or-second (issuerKind (m .evidence)) (inceptEvent (m .event) m) h)
+
+pub incept-accepted : (m : Message) (x : Answer) (g : Registry) → x ≡ inceptAnswer m → accepts x ≡ true → g ≡ incepted (m .event) → record { answer = x; state = g } ≡ inceptMessage m
+unfolding inceptMessage
+incept-accepted m x g e h f = rw (f, ← e, h)
+
+pub incept-refused : (m : Message) (x : Answer) (g : Registry) → x ≡ inceptAnswer m → accepts x ≡ false → g ≡ noRegistry → record { answer = x; state = g } ≡ inceptMessage m
+unfolding inceptMessage
+incept-refused m x g e h f = rw (f, ← e, h)
+
+incept-lettered-by : (e : Event) (m : Message) → goodEvent e ≡ true → accepts (inceptEvent e m) ≡ true → Lettered (incepted e)
+incept-lettered-by (vcp said issuer toad configs backers) m g h = good-incepted said issuer toad configs backers g
+incept-lettered-by (vrt said registry prior sn toad cuts additions) m g h = absurd (false≢true h)
+incept-lettered-by (iss said credential registry) m g h = absurd (false≢true h)
+incept-lettered-by (rev said credential registry prior) m g h = absurd (false≢true h)
+incept-lettered-by (bis said credential registry seal) m g h = absurd (false≢true h)
+incept-lettered-by (brv said credential prior seal) m g h = absurd (false≢true h)
+
+pub incept-lettered : (m : Message) → goodMessage m ≡ true → accepts (inceptMessage m .answer) ≡ true → Lettered (inceptMessage m .state)
+unfolding inceptMessage inceptAnswer
+incept-lettered m g h =
+    let l = incept-lettered-by (m .event) m (good-event m g) (or-second (issuerKind (m .evidence)) (inceptEvent (m .event) m) h) in
+    rw h l
+
+pub incept-decoded : (s : List ℕ) (d : DecodedAttempt) → viewDecoded s d ≡ decodeOf s → d .ok ≡ true → inceptOf s ≡ inceptMessage (viewAttempt s (d .attempt))
+unfolding inceptOf
+incept-decoded s d e ok = rw (← e, ok)
+
+pub incept-malformed : (s : List ℕ) (d : DecodedAttempt) → viewDecoded s d ≡ decodeOf s → d .ok ≡ false → inceptOf s ≡ record { answer = Rejected Malformed; state = noRegistry }
+unfolding inceptOf
+incept-malformed s d e ok = rw (← e, ok)
+
+-- rotations
+pub limit-chain : (ok : Bool) (toad : ℕ) (u v now : List BasicPrefix) (l : List Signature) → v ≡ cond ok u now → orElse (acceptIf ok TooManyBackers) (orElse (thresholdFits toad v) (orElse (enoughReceipts toad (length v) l) Accepted)) ≡ orElse (acceptIf ok TooManyBackers) (orElse (thresholdFits toad u) (orElse (enoughReceipts toad (length u) l) Accepted))
+unfolding acceptIf
+limit-chain true toad u v now l e = rw e
+limit-chain false toad u v now l e = refl
+
+pub limit-list : (x y rest : Answer) (ok : Bool) (u v now : List BasicPrefix) → v ≡ cond ok u now → accepts (orElse x (orElse y (orElse (acceptIf ok TooManyBackers) rest))) ≡ true → v ≡ u
+limit-list x y rest ok u v now e h =
+    let limit = acceptIf ok TooManyBackers in
+    let t : ok ≡ true = passed ok TooManyBackers (or-first limit rest (or-second y (orElse limit rest) (or-second x (orElse y (orElse limit rest)) h))) in
+    e ∙ rw t
+
+pub vrt-lists : (g : Registry) (said registry prior : Said) (sn : Sn) (toad : ℕ) (cuts additions : List BasicPrefix) (m : Message) → accepts (vrtAnswer g said registry prior sn toad cuts additions m) ≡ true → accepts (vrtBackers (g .backers) toad cuts additions (m .signatures)) ≡ true
+unfolding vrtAnswer firstOf
+vrt-lists g said registry prior sn toad cuts additions m h =
+    let z = vrtBackers (g .backers) toad cuts additions (m .signatures) in
+    let t5 = orElse z Accepted in
+    let t4 = orElse (authenticateIssuer (g .issuer) registry sn said m) t5 in
+    let t3 = orElse (acceptIf (eqSaid prior (g .latest)) PriorDigestMismatch) t4 in
+    let t2 = orElse (nextSn (g .sn) sn) t3 in
+    let t1 = orElse (acceptIf (not (noBackers (g .configs))) RotationOnBackerlessRegistry) t2 in
+    or-first z Accepted
+    (or-second (authenticateIssuer (g .issuer) registry sn said m) t5
+    (or-second (acceptIf (eqSaid prior (g .latest)) PriorDigestMismatch) t4
+    (or-second (nextSn (g .sn) sn) t3
+    (or-second (acceptIf (not (noBackers (g .configs))) RotationOnBackerlessRegistry) t2
+    (or-second (acceptIf (eqSaid registry (g .id)) InconsistentRegistry) t1 h)))))
+
+pub ingest-accepted : (g : Registry) (m : Message) (x : Answer) (h : Registry) → x ≡ ingestEvent g (m .event) m → accepts x ≡ true → h ≡ rotated g (m .event) → record { answer = x; state = h } ≡ ingestMessage g m
+unfolding ingestMessage
+ingest-accepted g m x h e k f = rw (f, ← e, k)
+
+pub ingest-refused : (g : Registry) (m : Message) (x : Answer) → x ≡ ingestEvent g (m .event) m → accepts x ≡ false → record { answer = x; state = g } ≡ ingestMessage g m
+unfolding ingestMessage
+ingest-refused g m x e k = rw (← e, k)
+
+-- a refusal of a kind
+pub refused-ingested : (s : List ℕ) (g : RegistryState) (a : Attempt) (r : RegistryOutcome) (x : RegistryRejection) → r .answer ≡ Rejected x → r .state ≡ g → ingestEvent (viewRegistry g) (viewAttempt s a .event) (viewAttempt s a) ≡ Rejected x → Ingested s g a r
+refused-ingested s g a r x e f h =
+    let no : accepts (r .answer) ≡ false = rw e in
+    record
+    { outcome = rw (e, f) (ingest-refused (viewRegistry g) (viewAttempt s a) (Rejected x) (sym h) refl); kept = λ k. f; counts = λ k. absurd (false≢true (sym no ∙ k)) }
+
+ingest-lettered-by : (g : Registry) (e : Event) (m : Message) → Lettered g → goodEvent e ≡ true → accepts (ingestEvent g e m) ≡ true → Lettered (rotated g e)
+ingest-lettered-by g (vcp said issuer toad configs backers) m l k h = absurd (false≢true h)
+ingest-lettered-by g (vrt said registry prior sn toad cuts additions) m l k h = good-rotated g said registry prior sn toad cuts additions l k
+ingest-lettered-by g (iss said credential registry) m l k h = absurd (false≢true h)
+ingest-lettered-by g (rev said credential registry prior) m l k h = absurd (false≢true h)
+ingest-lettered-by g (bis said credential registry seal) m l k h = absurd (false≢true h)
+ingest-lettered-by g (brv said credential prior seal) m l k h = absurd (false≢true h)
+
+pub ingest-lettered : (g : Registry) (m : Message) → Lettered g → goodMessage m ≡ true → accepts (ingestMessage g m .answer) ≡ true → Lettered (ingestMessage g m .state)
+unfolding ingestMessage
+ingest-lettered g m l k h = rw h (ingest-lettered-by g (m .event) m l (good-event m k) h)
+
+pub ingest-decoded : (g : RegistryState) (s : List ℕ) (d : DecodedAttempt) → viewDecoded s d ≡ decodeOf s → wellRegistry g ≡ true → d .ok ≡ true → ingestOf g s ≡ ingestMessage (viewRegistry g) (viewAttempt s (d .attempt))
+unfolding ingestOf
+ingest-decoded g s d e w ok = rw (w, ← e, ok)
+
+malformed-by : (g : RegistryState) (s : List ℕ) (d : DecodedAttempt) (w ok : Bool) → viewDecoded s d ≡ decodeOf s → wellRegistry g ≡ w → d .ok ≡ ok → (w && ok) ≡ false → ingestOf g s ≡ record { answer = Rejected Malformed; state = viewRegistry g }
+unfolding ingestOf
+malformed-by g s d true true e p q z = absurd (false≢true (sym z))
+malformed-by g s d true false e p q z = rw (p, ← e, q)
+malformed-by g s d false ok e p q z = rw p
+
+pub ingest-malformed : (g : RegistryState) (s : List ℕ) (d : DecodedAttempt) → viewDecoded s d ≡ decodeOf s → (wellRegistry g && d .ok) ≡ false → ingestOf g s ≡ record { answer = Rejected Malformed; state = viewRegistry g }
+ingest-malformed g s d e h = malformed-by g s d (wellRegistry g) (d .ok) e refl refl h
