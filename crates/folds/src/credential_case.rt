@@ -29,7 +29,8 @@ fn same_credential(w: CredentialState, bytes: &[u8]) -> bool
 fn credential_agrees(o: CredentialOutcome, next: &[u8], held: &[u8]) -> bool
     ensures { λ r. ⌜ r ≡ sameList (credentialBytes (o .state)) (cond (accepts (o .answer)) (now (next .entry)) (now (held .entry))) ⌝ }
 {
-    if accepts(o.answer) {
+    let answer = o.answer;
+    if accepts(answer) {
         return same_credential(o.state, next);
     }
     same_credential(o.state, held)
@@ -44,7 +45,8 @@ pub(crate) fn judge_issue(expected: &[u8], next: &[u8], registry: &[u8], attempt
         return unread(expected);
     }
     let o = incept(g.value, attempt);
-    let told = same_told(answered(o.answer), expected);
+    let answer = o.answer;
+    let told = same_told(answered(answer), expected);
     let agrees = told & credential_agrees(o, next, &blank);
     Finding { agrees, read: true }
 }
@@ -64,7 +66,8 @@ pub(crate) fn judge_revoke(
         return unread(expected);
     }
     let o = ingest(g.value, w.value, attempt);
-    let told = same_told(answered(o.answer), expected);
+    let answer = o.answer;
+    let told = same_told(answered(answer), expected);
     let agrees = told & credential_agrees(o, next, held);
     Finding { agrees, read: true }
 }

@@ -31,7 +31,8 @@ fn same_registry(g: RegistryState, bytes: &[u8]) -> bool
 fn registry_agrees(o: RegistryOutcome, next: &[u8], held: &[u8]) -> bool
     ensures { λ r. ⌜ r ≡ sameList (registryBytes (viewRegistry (o .state))) (cond (accepts (o .answer)) (now (next .entry)) (now (held .entry))) ⌝ }
 {
-    if accepts(o.answer) {
+    let answer = o.answer;
+    if accepts(answer) {
         return same_registry(o.state, next);
     }
     same_registry(o.state, held)
@@ -43,7 +44,8 @@ pub(crate) fn judge_incept(expected: &[u8], next: &[u8], attempt: &[u8]) -> Find
 {
     let blank = [0u8; 121];
     let o = incept_with_evidence(attempt);
-    let told = same_told(answered(o.answer), expected);
+    let answer = o.answer;
+    let told = same_told(answered(answer), expected);
     let agrees = told & registry_agrees(o, next, &blank);
     Finding { agrees, read: true }
 }
@@ -56,7 +58,8 @@ pub(crate) fn judge_rotate(expected: &[u8], next: &[u8], held: &[u8], attempt: &
         return unread(expected);
     }
     let o = ingest(g.value, attempt);
-    let told = same_told(answered(o.answer), expected);
+    let answer = o.answer;
+    let told = same_told(answered(answer), expected);
     let agrees = told & registry_agrees(o, next, held);
     Finding { agrees, read: true }
 }

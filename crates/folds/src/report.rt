@@ -107,7 +107,7 @@ fn two(first: Sn, second: Sn) -> Details
     }
 }
 
-fn details(r: RegistryRejection) -> Details
+fn details_of(r: RegistryRejection) -> Details
     ensures { λ d. ⌜ viewDetails d ≡ padded (detailsOf r) ⌝ }
 {
     match r {
@@ -168,7 +168,7 @@ pub(crate) fn rejected(r: RegistryRejection) -> Told
         number: r.number(),
         letter: d.letter(),
         awaited: awaited(d),
-        details: details(r),
+        details: details_of(r),
     }
 }
 

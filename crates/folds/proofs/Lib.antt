@@ -1,0 +1,3 @@
+pub mod Laws
+pub mod RegistryCases
+pub mod CredentialCases
