@@ -1,5 +1,5 @@
 // Receipts of backers (docs/RULES.md, "Receipts"). Verifying a signature is the caller's; an attempt has the verdicts.
-use codec::cursor::Cursor;
+use codec_cursor::cursor::Cursor;
 use events::member_set::Members;
 use registry_wire::attempt::Counted;
 use registry_wire::signatures::read_signature;

@@ -13,8 +13,8 @@ use Rattle.laws.specs.Number.{Bytes}
 use Rattle.cesr.specs.Primitives.{matterBytes}
 use Rattle.cesr.specs.declared.primitive.Matter.{Matter}
 use Rattle.cesr.specs.declared.primitive.Said.{Said}
-use Rattle.codec.specs.declared.cursor.Cursor.{Cursor}
-use Rattle.codec.specs.Readers.{placed, starting, mapped, readByte, readSaid, readIdentifier}
+use Rattle.codec_cursor.specs.declared.cursor.Cursor.{Cursor}
+use Rattle.codec_cursor.specs.Readers.{placed, starting, mapped, readByte, readSaid, readIdentifier}
 use Rattle.codec.specs.Layout.{saidBytes, goodIdentifier}
 use Rattle.codec.proofs.Stands.{Stands, stays}
 use Rattle.codec.proofs.Codes.{Told, Codes, led, leads, shift, mapped-is, codes-map, codes-both, codes-said, codes-identifier}

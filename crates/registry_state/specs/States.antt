@@ -11,9 +11,9 @@ use Rattle.cesr.specs.declared.number.Sn.{Sn}
 use Rattle.cesr.specs.declared.primitive.Matter.{Matter}
 use Rattle.cesr.specs.declared.primitive.Said.{Said}
 use Rattle.cesr.specs.declared.primitive.BasicPrefix.{BasicPrefix}
-use Rattle.events.specs.Configs.{viewConfigs}
+use Rattle.events_tel.specs.Configs.{viewConfigs}
 use Rattle.events.specs.Members.{view}
-use Rattle.codec.specs.Readers.{Read, Reader, starting, need, isIdentifier, readByte, readNumber, readQuad, readIdentifier, readSaid, mapped, both, section}
+use Rattle.codec_cursor.specs.Readers.{Read, Reader, starting, need, isIdentifier, readByte, readNumber, readQuad, readIdentifier, readSaid, mapped, both, section}
 use Rattle.codec.specs.Events.{isConfig, readConfigs, readPrefixes}
 use Rattle.codec.specs.Layout.{sectionBytes, all, saidBytes, prefixBytes, byteBytes, isMatter, goodSaid, goodIdentifier, goodSn, goodToad, goodConfigs, goodPrefixes}
 use Rattle.registry_state.specs.declared.state.RegistryState.{RegistryState}

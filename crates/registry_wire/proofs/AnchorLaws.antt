@@ -22,7 +22,7 @@ use Rattle.cesr.specs.declared.number.Sn.{Sn}
 use Rattle.cesr.specs.declared.primitive.Matter.{Matter}
 use Rattle.cesr.specs.declared.primitive.Said.{Said}
 use Rattle.cesr.proofs.Matters.{length-matter}
-use Rattle.codec.specs.Readers.{placed, Read, starting, readNumber, readIf, readIdentifier, readSaid}
+use Rattle.codec_cursor.specs.Readers.{placed, Read, starting, readNumber, readIf, readIdentifier, readSaid}
 use Rattle.codec.specs.Layout.{joined, sectionBytes, all, saidBytes, sealBytes, goodIdentifier, goodSn, goodSaid, goodSeal}
 use Rattle.codec.proofs.Stands.{Stands, stands-first, stands-rest, whole-stands}
 use Rattle.codec.proofs.Codes.{codes-sn, codes-said, codes-identifier}

@@ -16,9 +16,9 @@ use Rattle.laws.specs.Number.{Bytes}
 use Rattle.laws.proofs.Tests.{and-left}
 use Rattle.cesr.specs.declared.primitive.Matter.{Matter}
 use Rattle.cesr.proofs.Matters.{length-matter}
-use Rattle.events.specs.TelEvents.{Event}
-use Rattle.codec.specs.declared.cursor.Cursor.{Cursor}
-use Rattle.codec.specs.Readers.{placed, Read, starting, need, readByte, readIdentifier, counted, times, countUpTo, section}
+use Rattle.events_tel.specs.TelEvents.{Event}
+use Rattle.codec_cursor.specs.declared.cursor.Cursor.{Cursor}
+use Rattle.codec_cursor.specs.Readers.{placed, Read, starting, need, readByte, readIdentifier, counted, times, countUpTo, section}
 use Rattle.codec.specs.Events.{readEvent}
 use Rattle.codec.specs.Layout.{joined}
 use Rattle.codec.proofs.Loops.{count-within}

@@ -14,10 +14,10 @@ use Rattle.cesr.specs.Primitives.{matterBytes}
 use Rattle.cesr.specs.declared.number.Sn.{Sn}
 use Rattle.cesr.specs.declared.primitive.Matter.{Matter}
 use Rattle.cesr.specs.declared.primitive.Said.{Said}
-use Rattle.events.specs.TelEvents.{Event}
+use Rattle.events_tel.specs.TelEvents.{Event}
 use Rattle.events.specs.declared.seal.Seal.{Seal}
-use Rattle.codec.specs.declared.cursor.Cursor.{Cursor}
-use Rattle.codec.specs.Readers.{placed, starting, both, after, readByte, readIdentifier}
+use Rattle.codec_cursor.specs.declared.cursor.Cursor.{Cursor}
+use Rattle.codec_cursor.specs.Readers.{placed, starting, both, after, readByte, readIdentifier}
 use Rattle.codec.specs.Events.{readSeal}
 use Rattle.codec.specs.Layout.{joined, sectionBytes, all, sealBytes, goodIdentifier, goodSeal, goodToad}
 use Rattle.codec.proofs.Stands.{Stands, stays}

@@ -14,7 +14,7 @@ use Rattle.cesr.specs.declared.number.Sn.{Sn}
 use Rattle.cesr.specs.declared.primitive.Matter.{Matter}
 use Rattle.cesr.specs.declared.primitive.Said.{Said}
 use Rattle.events.specs.declared.seal.Seal.{Seal}
-use Rattle.codec.specs.Readers.{placed, starting, stopped, need, counted}
+use Rattle.codec_cursor.specs.Readers.{placed, starting, stopped, need, counted}
 use Rattle.codec.specs.Events.{readSeal}
 use Rattle.codec.specs.Layout.{joined, sectionBytes, all, sealBytes, goodSeal}
 use Rattle.codec.proofs.Stands.{stands-first, whole-stands}

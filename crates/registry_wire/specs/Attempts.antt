@@ -12,11 +12,11 @@ use Rattle.cesr.specs.declared.number.Sn.{Sn}
 use Rattle.cesr.specs.declared.primitive.Matter.{Matter}
 use Rattle.cesr.specs.declared.primitive.Said.{Said}
 use Rattle.events.specs.Identifiers.{matterOf}
-use Rattle.events.specs.TelEvents.{Event, viewEvent}
+use Rattle.events_tel.specs.TelEvents.{Event, viewEvent}
 use Rattle.events.specs.declared.seal.Seal.{Seal}
 use Rattle.events.specs.declared.seal.Seal.the-variants.{Digest, Root, Source as SourceSeal, Event as EventSeal, Last, Back, Kind, Opaque}
-use Rattle.codec.specs.declared.cursor.Cursor.{Cursor}
-use Rattle.codec.specs.Readers.{Read, Reader, placed, starting, need, readByte, readByteIf, readQuad, readNumber, readIdentifier, readSaid, mapped, both, after, counted, times, countUpTo, section}
+use Rattle.codec_cursor.specs.declared.cursor.Cursor.{Cursor}
+use Rattle.codec_cursor.specs.Readers.{Read, Reader, placed, starting, need, readByte, readByteIf, readQuad, readNumber, readIdentifier, readSaid, mapped, both, after, counted, times, countUpTo, section}
 use Rattle.codec.specs.Events.{readSeal, readEvent}
 use Rattle.codec.specs.Layout.{joined, sectionBytes, all, saidBytes, sealBytes, eventBytes, goodSaid, goodIdentifier, goodSn, goodSeal, goodEvent}
 use Rattle.registry_state.specs.States.{Registry, viewRegistry, registryBytes, goodRegistry, readRegistry}

@@ -2,7 +2,7 @@
 use cesr::number::Sn;
 use cesr::primitive::Matter;
 use cesr::primitive::Said;
-use codec::cursor::Cursor;
+use codec_cursor::cursor::Cursor;
 use codec::section::read_seal;
 use events::seal::Seal;
 ghost use mathlib.Core.Path.{_≡_};

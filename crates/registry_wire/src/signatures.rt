@@ -1,6 +1,6 @@
 // The signatures of an attempt, section 9 (docs/RULES.md, "Bytes").
 use crate::attempt::Counted;
-use codec::cursor::Cursor;
+use codec_cursor::cursor::Cursor;
 use codec::section::count_up_to;
 ghost use mathlib.Core.Path.{_≡_};
 ghost use Rattle.registry_wire.specs.Attempts.{viewSignature, readSignature, passedSignatures};

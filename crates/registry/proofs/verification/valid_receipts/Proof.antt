@@ -6,7 +6,7 @@ use denote.Ref.{now}
 use lib.ListN.{length, getD-replicate}
 use borrow.Author.Needs.{needs}
 use Rattle.events.specs.Members.{view}
-use Rattle.codec.specs.Readers.{placed, times}
+use Rattle.codec_cursor.specs.Readers.{placed, times}
 use Rattle.registry_wire.specs.Attempts.{Signature, readSignature, signaturesIn}
 use Rattle.registry.specs.declared.verification.Marks.{Marks}
 use Rattle.registry.specs.Receipts.{receipts}

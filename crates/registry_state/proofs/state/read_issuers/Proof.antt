@@ -1,6 +1,6 @@
 use borrow.Author.Tests.{eq-eqb, ne-eqb}
 use borrow.Author.Needs.{needs}
-use Rattle.codec.specs.Readers.{readIdentifier}
+use Rattle.codec_cursor.specs.Readers.{readIdentifier}
 use Rattle.registry_state.specs.States.{readIssuers}
 use Rattle.codec.proofs.Loops.{section-none, section-one}
 use Rattle.registry_state.proofs.state.read_issuers.Statement.{statement}

@@ -4,8 +4,8 @@ use native.Mathlib.Omega.{arith}
 use borrow.Author.Needs.{needs}
 use lib.ListN.{length, take, length-set}
 use lib.Seq.{sets, take-all}
-use Rattle.events.specs.Configs.{viewConfigs}
-use Rattle.events.proofs.Configs.{view-size}
+use Rattle.events_tel.specs.Configs.{viewConfigs}
+use Rattle.events_tel.proofs.Configs.{view-size}
 use Rattle.codec.specs.Layout.{joined, sectionBytes, byteBytes}
 use Rattle.registry_state.proofs.StateLoops.{config-step}
 use Rattle.registry_state.proofs.state.write_configs.Statement.{statement}

@@ -6,7 +6,7 @@ use borrow.Rule.Slice.PartMut.{putMid}
 use denote.Ref.{now}
 use lib.ListN.{length}
 use lib.Seq.{sets, length-sets}
-use Rattle.events.specs.Configs.{viewConfigs}
+use Rattle.events_tel.specs.Configs.{viewConfigs}
 use Rattle.events.specs.Members.{view}
 use Rattle.codec.specs.Layout.{sectionBytes, byteBytes, prefixBytes}
 use Rattle.registry_state.proofs.StateLoops.{part-stored, rest-sets}

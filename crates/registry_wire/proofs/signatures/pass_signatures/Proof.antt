@@ -1,9 +1,9 @@
-use Rattle.codec.specs.declared.cursor.Cursor.{Cursor}
+use Rattle.codec_cursor.specs.declared.cursor.Cursor.{Cursor}
 use Prim.Native.Nat.{ℕ, _≤_, _-_}
 use mathlib.Core.Path.{_≡_, refl, ap, _∙_}
 use native.Mathlib.Omega.{arith}
 use denote.Ref.{now}
-use Rattle.codec.specs.Readers.{times, section}
+use Rattle.codec_cursor.specs.Readers.{times, section}
 use Rattle.codec.proofs.Loops.{times-next}
 use Rattle.registry_wire.specs.Attempts.{readSignature, passedSignatures}
 use borrow.Author.Needs.{needs}

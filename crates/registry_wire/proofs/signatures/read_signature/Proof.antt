@@ -1,4 +1,4 @@
-use Rattle.codec.specs.Readers.{readByteIf}
+use Rattle.codec_cursor.specs.Readers.{readByteIf}
 use Rattle.registry_wire.specs.Attempts.{readSignature}
 use borrow.Author.Needs.{needs}
 use Rattle.registry_wire.proofs.signatures.read_signature.Statement.{statement}

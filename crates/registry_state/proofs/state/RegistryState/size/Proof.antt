@@ -3,8 +3,8 @@ use mathlib.Core.Path.{_≡_}
 use native.Mathlib.Omega.{arith}
 use borrow.Author.Needs.{needs}
 use lib.ListN.{length}
-use Rattle.events.specs.Configs.{viewConfigs}
-use Rattle.events.proofs.Configs.{view-size}
+use Rattle.events_tel.specs.Configs.{viewConfigs}
+use Rattle.events_tel.proofs.Configs.{view-size}
 use Rattle.registry_state.specs.States.{viewRegistry}
 use Rattle.registry_state.proofs.StateLoops.{length-registry}
 use Rattle.registry_state.proofs.state.RegistryState.size.Statement.{statement}
