@@ -1,12 +1,12 @@
 // The sections that a layout is made of: a count byte, then that many elements (docs/RULES.md, "Bytes").
+use cesr::number::Sn;
 use codec_cursor::cursor::ByteRead;
 use codec_cursor::cursor::Cursor;
-use cesr::number::Sn;
-use events_tel::config::Configs;
 use events::identifier::Identifier;
 use events::member_set::Members;
 use events::seal::Seal;
 use events::toad::Toad;
+use events_tel::config::Configs;
 ghost use mathlib.Core.Path.{_≡_};
 ghost use Rattle.codec_cursor.specs.Readers.{countUpTo, section, viewByte};
 ghost use Rattle.codec.specs.Events.{readConfig, readConfigs, readPrefixes, readToad, sealOf, readEventSeal, readOtherSeal, readSeal, viewCountRead, viewConfigsRead, viewPrefixesRead, viewToadRead, viewSealRead};

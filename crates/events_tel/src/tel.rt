@@ -1,11 +1,11 @@
 // The six events of a registry and its credentials (docs/RULES.md, "Event kinds").
 use crate::config::Configs;
-use events::member_set::Members;
-use events::seal::Seal;
-use events::toad::Toad;
 use cesr::number::Sn;
 use cesr::primitive::Matter;
 use cesr::primitive::Said;
+use events::member_set::Members;
+use events::seal::Seal;
+use events::toad::Toad;
 ghost use mathlib.Core.Path.{_≡_};
 ghost use Rattle.events_tel.specs.TelEvents.{kindNumber, snOfKind};
 

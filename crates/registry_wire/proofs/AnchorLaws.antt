@@ -27,10 +27,11 @@ use Rattle.codec.specs.Layout.{joined, sectionBytes, all, saidBytes, sealBytes,
 use Rattle.codec.proofs.Stands.{Stands, stands-first, stands-rest, whole-stands}
 use Rattle.codec.proofs.Codes.{codes-sn, codes-said, codes-identifier}
 use Rattle.registry_state.proofs.StateLoops.{length-sn}
-use Rattle.registry_wire.specs.Attempts.{Anchor, anchorBytes, goodAnchor, chosen, chosenAnchors, sealSection, onlySeal, anchorSeals, anchorsIn, partOf, Holds}
+use Rattle.registry_wire.specs.Attempts.{Anchor, anchorBytes, goodAnchor, chosenAnchors, anchorsIn, partOf, Holds}
+use Rattle.registry_seals.specs.SealSections.{chosen, sealSection, onlySeal, anchorSeals}
 use Rattle.registry_wire.specs.declared.attempt.Part.{Part}
 use Rattle.registry_wire.proofs.AttemptLaws.{anchor-some}
-use Rattle.registry_wire.proofs.OnlySeal.{only-seal}
+use Rattle.registry_seals.proofs.OnlySeal.{only-seal}
 
 pub seals-behind : (a : Anchor) → sealSection (anchorBytes a) ≡ sectionBytes sealBytes (a .seals)
 unfolding sealSection
