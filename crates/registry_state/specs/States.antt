@@ -99,14 +99,6 @@ rangedRegistry g =
 unfoldable pub rangedCredential : CredentialState → Bool
 rangedCredential w = isMatter (w .registry .0) && (isMatter (w .credential .0) && (goodSn (w .sn) && isMatter (w .head .0)))
 
--- what a credential state is, and what a registry state begins with: two primitives, a number, a primitive
-unfoldable pub headBytes : Matter → Matter → Sn → Matter → List ℕ
-headBytes a b n d = matterBytes a ++ (matterBytes b ++ (snBytes n ++ matterBytes d))
-
--- what stands behind the head of a registry state
-unfoldable pub restBytes : ℕ → List ℕ → List BasicPrefix → List ℕ
-restBytes toad configs backers = digits 4 toad ++ (sectionBytes byteBytes configs ++ sectionBytes prefixBytes backers)
-
 -- what stands where there is no state
 abbrev pub noSaid : Said
 noSaid = record { 0 = none }

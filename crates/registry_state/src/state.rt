@@ -1,7 +1,5 @@
 // States of registries and credentials. They hold numbers alone, since a host lends them as memory and every pattern of bits has to be a value.
 use cesr::number::Sn;
-use cesr::number::has_room;
-use cesr::number::write_u32;
 use cesr::primitive::Matter;
 use cesr::primitive::Said;
 use codec::section::read_configs;
@@ -10,16 +8,18 @@ use codec_cursor::cursor::Cursor;
 use events::member_set::Members;
 use events::toad::Toad;
 use events_tel::config::Configs;
+use registry_bytes::writer::state_size;
+use registry_bytes::writer::write_credential;
+use registry_bytes::writer::write_registry;
 ghost use mathlib.Core.Path.{_≡_};
-ghost use Prim.Native.Nat.{_+_, _*_, _≤_};
+ghost use Prim.Native.Nat.{_+_};
 ghost use lib.ListN.{length};
-ghost use lib.Seq.{sets};
 ghost use Rattle.laws.specs.Room.{room, put};
 ghost use Rattle.events_tel.specs.Configs.{viewConfigs};
 ghost use Rattle.events.specs.Members.{view};
 ghost use Rattle.codec.specs.Events.{isConfig};
-ghost use Rattle.codec.specs.Layout.{sectionBytes, byteBytes, prefixBytes, all};
-ghost use Rattle.registry_state.specs.States.{viewRegistry, registryBytes, credentialBytes, headBytes, restBytes, readRegistry, readCredential, viewRegistryRead, viewCredentialRead, noRegistry, noCredential, isBacker, wellRegistry, wellCredential};
+ghost use Rattle.codec.specs.Layout.{all};
+ghost use Rattle.registry_state.specs.States.{viewRegistry, registryBytes, credentialBytes, readRegistry, readCredential, viewRegistryRead, viewCredentialRead, noRegistry, noCredential, isBacker, wellRegistry, wellCredential};
 
 pub struct RegistryState {
     pub id: Said,
@@ -85,19 +85,24 @@ impl RegistryState {
     pub fn size(self) -> usize
         ensures { λ r. ⌜ r ≡ length (registryBytes (viewRegistry self)) ⌝ }
     {
-        121 + self.configs.size() + 33 * self.backers.size()
+        state_size(self.configs, self.backers)
     }
 
     // Stores all its bytes or none, and answers which.
     pub fn write(self, out: &mut [u8], at: usize) -> bool
         ensures { λ r. ⌜ (r ≡ room (now (out .entry)) at (length (registryBytes (viewRegistry self)))) × (now (out .exit) ≡ put (now (out .entry)) at (registryBytes (viewRegistry self))) ⌝ }
     {
-        if !has_room(out.len(), at, self.size()) {
-            return false;
-        }
-        write_head(out, at, self.id.0, self.issuer, self.sn, self.latest.0);
-        write_rest(out, at + 115, self.toad, self.configs, self.backers);
-        true
+        write_registry(
+            out,
+            at,
+            self.id.0,
+            self.issuer,
+            self.sn,
+            self.latest.0,
+            self.toad,
+            self.configs,
+            self.backers,
+        )
     }
 
     pub fn read(c: Cursor, s: &[u8]) -> RegistryRead
@@ -156,18 +161,14 @@ impl CredentialState {
     pub fn write(self, out: &mut [u8], at: usize) -> bool
         ensures { λ r. ⌜ (r ≡ room (now (out .entry)) at 115) × (now (out .exit) ≡ put (now (out .entry)) at (credentialBytes self)) ⌝ }
     {
-        if !has_room(out.len(), at, 115) {
-            return false;
-        }
-        write_head(
+        write_credential(
             out,
             at,
             self.registry.0,
             self.credential.0,
             self.sn,
             self.head.0,
-        );
-        true
+        )
     }
 
     pub fn read(c: Cursor, s: &[u8]) -> CredentialRead
@@ -225,55 +226,4 @@ fn all_backers(backers: Members) -> bool
         i += 1;
     }
     true
-}
-
-// Two primitives, a number and a primitive, in 115 bytes.
-fn write_head(out: &mut [u8], at: usize, a: Matter, b: Matter, sn: Sn, d: Matter)
-    requires { ⌜ at + 115 ≤ length (now out) ⌝ }
-    ensures { λ r. ⌜ now (out .exit) ≡ sets (now (out .entry)) at (headBytes a b sn d) ⌝ }
-{
-    a.write(out, at);
-    b.write(out, at + 33);
-    sn.write(out, at + 66);
-    d.write(out, at + 82);
-}
-
-// The threshold and the two sections of a registry state.
-fn write_rest(out: &mut [u8], at: usize, toad: Toad, configs: Configs, backers: Members)
-    requires { ⌜ at + (6 + length (viewConfigs configs) + 33 * length (view backers)) ≤ length (now out) ⌝ }
-    ensures { λ r. ⌜ now (out .exit) ≡ sets (now (out .entry)) at (restBytes (toad .0) (viewConfigs configs) (view backers)) ⌝ }
-{
-    write_u32(out, at, toad.value());
-    let from = at + 4;
-    write_configs(&mut out[from..], configs);
-    let behind = from + 1 + configs.size();
-    write_backers(&mut out[behind..], backers);
-}
-
-// The count of the config bytes, then the bytes.
-fn write_configs(out: &mut [u8], configs: Configs)
-    requires { ⌜ 1 + length (viewConfigs configs) ≤ length (now out) ⌝ }
-    ensures { λ r. ⌜ now (out .exit) ≡ sets (now (out .entry)) 0 (sectionBytes byteBytes (viewConfigs configs)) ⌝ }
-{
-    let n = configs.size();
-    out[0] = n as u8;
-    let mut i: usize = 0;
-    while i < n {
-        out[1 + i] = configs.item(i);
-        i += 1;
-    }
-}
-
-// The count of the backers, then the backers.
-fn write_backers(out: &mut [u8], backers: Members)
-    requires { ⌜ 1 + 33 * length (view backers) ≤ length (now out) ⌝ }
-    ensures { λ r. ⌜ now (out .exit) ≡ sets (now (out .entry)) 0 (sectionBytes prefixBytes (view backers)) ⌝ }
-{
-    let n = backers.size();
-    out[0] = n as u8;
-    let mut i: usize = 0;
-    while i < n {
-        backers.item(i).0.write(out, 1 + 33 * i);
-        i += 1;
-    }
 }

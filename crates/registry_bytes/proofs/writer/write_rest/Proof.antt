@@ -9,9 +9,9 @@ use lib.Seq.{sets, length-sets}
 use Rattle.events_tel.specs.Configs.{viewConfigs}
 use Rattle.events.specs.Members.{view}
 use Rattle.codec.specs.Layout.{sectionBytes, byteBytes, prefixBytes}
-use Rattle.registry_state.proofs.StateLoops.{part-stored, rest-sets}
-use Rattle.registry_state.proofs.state.write_rest.Statement.{statement}
-use Rattle.registry_state.proofs.state.write_rest.Tie as tie
+use Rattle.registry_bytes.proofs.StateWrites.{part-stored, rest-sets}
+use Rattle.registry_bytes.proofs.writer.write_rest.Statement.{statement}
+use Rattle.registry_bytes.proofs.writer.write_rest.Tie as tie
 
 value-requires : tie.Need-value-requires
 value-requires c κs = search needs

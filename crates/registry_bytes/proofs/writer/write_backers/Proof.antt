@@ -6,9 +6,9 @@ use lib.ListN.{length, take, length-set}
 use lib.Seq.{sets, take-all}
 use Rattle.events.specs.Members.{view}
 use Rattle.codec.specs.Layout.{joined, sectionBytes, prefixBytes}
-use Rattle.registry_state.proofs.StateLoops.{backer-step}
-use Rattle.registry_state.proofs.state.write_backers.Statement.{statement}
-use Rattle.registry_state.proofs.state.write_backers.Tie as tie
+use Rattle.registry_bytes.proofs.StateWrites.{backer-step}
+use Rattle.registry_bytes.proofs.writer.write_backers.Statement.{statement}
+use Rattle.registry_bytes.proofs.writer.write_backers.Tie as tie
 
 abbrev Inv-loop : tie.InvT-loop
 Inv-loop out₀ backers n i₀ out i = (i ≤ n) × (length out ≡ length out₀) × (out ≡ sets out₀ 1 (joined prefixBytes (take i (view backers))))

@@ -7,9 +7,9 @@ use lib.Seq.{sets, take-all}
 use Rattle.events_tel.specs.Configs.{viewConfigs}
 use Rattle.events_tel.proofs.Configs.{view-size}
 use Rattle.codec.specs.Layout.{joined, sectionBytes, byteBytes}
-use Rattle.registry_state.proofs.StateLoops.{config-step}
-use Rattle.registry_state.proofs.state.write_configs.Statement.{statement}
-use Rattle.registry_state.proofs.state.write_configs.Tie as tie
+use Rattle.registry_bytes.proofs.StateWrites.{config-step}
+use Rattle.registry_bytes.proofs.writer.write_configs.Statement.{statement}
+use Rattle.registry_bytes.proofs.writer.write_configs.Tie as tie
 
 abbrev Inv-loop : tie.InvT-loop
 Inv-loop out₀ configs n i₀ out i = (i ≤ n) × (length out ≡ length out₀) × (out ≡ sets out₀ 1 (joined byteBytes (take i (viewConfigs configs))))
