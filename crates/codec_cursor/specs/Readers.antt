@@ -1,4 +1,4 @@
--- How bytes are read: a cursor, and the readers that a layout is read by. (What a layout is, is said from the value to its bytes: Layout.)
+-- How bytes are read: a cursor, and the readers that a layout is read by. (What a layout is, is said from the value to its bytes, in codec: Layout.)
 use Prim.Native.Nat.{ℕ, zero, suc, _+_}
 use mathlib.Core.List.{List, [], _∷_, _++_}
 use mathlib.Core.Bool.{Bool, true, false, cond, _&&_, _||_}
