@@ -200,8 +200,8 @@ fn rotate(g: RegistryState, a: Attempt, s: &[u8]) -> RegistryOutcome
 {
     let rotation = vrt_backers(g.backers, a, s);
     let late = rotation.answer;
-    let answer = vrt_answer(g, a, s, late);
-    if accepts(answer) {
+    let verdict = vrt_answer(g, a, s, late);
+    if accepts(verdict) {
         let id = g.id;
         let issuer = g.issuer;
         let sn = a.event.sn;
@@ -218,9 +218,15 @@ fn rotate(g: RegistryState, a: Attempt, s: &[u8]) -> RegistryOutcome
             configs,
             backers,
         };
-        return RegistryOutcome { answer, state };
+        return RegistryOutcome {
+            answer: verdict,
+            state,
+        };
     }
-    RegistryOutcome { answer, state: g }
+    RegistryOutcome {
+        answer: verdict,
+        state: g,
+    }
 }
 
 // A refusal: the state stays.

@@ -117,11 +117,17 @@ fn incept_outcome(g: RegistryState, a: Attempt, s: &[u8]) -> CredentialOutcome
 {
     let answer = incept_event(g, a, s);
     if accepts(answer) {
-        let state = issued(g.id, a.event);
-        return CredentialOutcome { answer, state };
+        let first = issued(g.id, a.event);
+        return CredentialOutcome {
+            answer,
+            state: first,
+        };
     }
-    let state = CredentialState::none();
-    CredentialOutcome { answer, state }
+    let blank = CredentialState::none();
+    CredentialOutcome {
+        answer,
+        state: blank,
+    }
 }
 
 // A refusal: the state stays.
