@@ -24,9 +24,9 @@ use Rattle.cesr.specs.declared.primitive.Matter.{Matter}
 use Rattle.cesr.proofs.Words.{words-value, value-words, snOf-good, value-fits}
 use Rattle.cesr.proofs.Matters.{length-matter}
 use Rattle.cesr.proofs.Round.{Filled, matter-at, matter-bytes, read-filled}
-use Rattle.codec.specs.declared.cursor.Cursor.{Cursor}
+use Rattle.codec_cursor.specs.declared.cursor.Cursor.{Cursor}
 use Rattle.codec.specs.Layout.{byteBytes, saidBytes, prefixBytes, isMatter, goodSn, goodToad, goodSaid, goodPrefix, goodIdentifier}
-use Rattle.codec.specs.Readers.{placed, Read, Reader, advanced, counted, mapped, both, after, ended, readByte, readByteIf, readQuad, readNumber, readIf, readSaid, readPrefix, readIdentifier, isIdentifier, saidOf, prefixOf}
+use Rattle.codec_cursor.specs.Readers.{placed, Read, Reader, advanced, counted, mapped, both, after, ended, readByte, readByteIf, readQuad, readNumber, readIf, readSaid, readPrefix, readIdentifier, isIdentifier, saidOf, prefixOf}
 use Rattle.codec.proofs.Stands.{Stands, stands-join, stands-first, stands-rest, stands-fits, stands-split, stands-place, went, goes-on, passed, stays}
 
 -- what a reader that has not stopped tells of the value that it gives

@@ -14,12 +14,12 @@ use Rattle.cesr.specs.declared.number.Sn.{Sn}
 use Rattle.cesr.specs.declared.primitive.Matter.{Matter}
 use Rattle.cesr.specs.declared.primitive.Said.{Said}
 use Rattle.cesr.specs.declared.primitive.BasicPrefix.{BasicPrefix}
-use Rattle.events.specs.TelEvents.{Event}
-use Rattle.events.specs.TelEvents.Event.{vcp, vrt, iss, rev, bis, brv}
+use Rattle.events_tel.specs.TelEvents.{Event}
+use Rattle.events_tel.specs.TelEvents.Event.{vcp, vrt, iss, rev, bis, brv}
 use Rattle.events.specs.declared.seal.Seal.{Seal}
-use Rattle.codec.specs.declared.cursor.Cursor.{Cursor}
+use Rattle.codec_cursor.specs.declared.cursor.Cursor.{Cursor}
 use Rattle.codec.specs.Layout.{joined, sectionBytes, byteBytes, saidBytes, prefixBytes, sealBytes, asItIs, sixSections, sectionsOf, kindByte, eventBytes, goodSaid, goodIdentifier, goodSn, goodToad, goodConfigs, goodPrefixes, goodSeal, goodEvent}
-use Rattle.codec.specs.Readers.{placed, Read, Reader, need, mapped, both, after, ended, readByte, readNumber, readSaid, readIdentifier}
+use Rattle.codec_cursor.specs.Readers.{placed, Read, Reader, need, mapped, both, after, ended, readByte, readNumber, readSaid, readIdentifier}
 use Rattle.codec.specs.Events.{readToad, readConfigs, readPrefixes, readSeal, vcpOf, vrtOf, issOf, revOf, bisOf, brvOf, readVcp, readVrt, readIss, readRev, readBis, readBrv, readKind, readEvent}
 use Rattle.codec.proofs.Stands.{Stands, passed, stays}
 use Rattle.codec.proofs.Codes.{Told, Codes, led, leads, shift, mapped-is, codes-both, codes-after, codes-ended, codes-sn, codes-said, codes-identifier}

@@ -6,8 +6,8 @@ use mathlib.Core.Bool.{Bool, true, false, cond, _||_}
 use borrow.Author.Tests.{eqb-true}
 use lib.Dec.{eqb}
 use Rattle.laws.specs.Number.{Bytes}
-use Rattle.codec.specs.declared.cursor.Cursor.{Cursor}
-use Rattle.codec.specs.Readers.{Read, need, readByte}
+use Rattle.codec_cursor.specs.declared.cursor.Cursor.{Cursor}
+use Rattle.codec_cursor.specs.Readers.{Read, need, readByte}
 use Rattle.codec.proofs.Stands.{Stands, Passed, passed, stays}
 use Rattle.codec.proofs.Codes.{Told, codes-byte}
 

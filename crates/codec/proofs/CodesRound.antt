@@ -16,8 +16,8 @@ use Rattle.laws.specs.Number.{Bytes}
 use Rattle.laws.specs.Room.{room, put}
 use Rattle.laws.proofs.Room.{put-sets, put-none, room-true, room-false, stored-same}
 use Rattle.laws.proofs.Tests.{and-left, and-right}
-use Rattle.codec.specs.declared.cursor.Cursor.{Cursor}
-use Rattle.codec.specs.Readers.{placed, Read, Reader, starting}
+use Rattle.codec_cursor.specs.declared.cursor.Cursor.{Cursor}
+use Rattle.codec_cursor.specs.Readers.{placed, Read, Reader, starting}
 use Rattle.codec.proofs.Stands.{Stands, stands-whole, whole-stands}
 use Rattle.codec.proofs.Codes.{Codes}
 

@@ -22,9 +22,9 @@ use Rattle.events.specs.declared.identifier.Identifier.{Identifier}
 use Rattle.events.specs.declared.identifier.Identifier.the-variants.{Basic, SelfAddressing}
 use Rattle.events.specs.declared.seal.Seal.{Seal}
 use Rattle.events.specs.declared.seal.Seal.the-variants.{Digest, Root, Source, Event as EventSeal, Last, Back, Kind, Opaque}
-use Rattle.codec.specs.declared.cursor.Cursor.{Cursor}
+use Rattle.codec_cursor.specs.declared.cursor.Cursor.{Cursor}
 use Rattle.codec.specs.Layout.{byteBytes, saidBytes, prefixBytes, sectionBytes, isMatter, goodSn, goodToad, goodSaid, goodPrefix, goodIdentifier, goodConfigs, goodPrefixes, sealBytes, goodIdentity, goodSeal}
-use Rattle.codec.specs.Readers.{placed, both, readByte, readByteIf, readNumber, readSaid, readIdentifier, isIdentifier, readPrefix}
+use Rattle.codec_cursor.specs.Readers.{placed, both, readByte, readByteIf, readNumber, readSaid, readIdentifier, isIdentifier, readPrefix}
 use Rattle.codec.specs.Events.{isConfig, readConfig, readToad, readConfigs, readPrefixes, sealOf, eventSeal, readEventSeal, readOtherSeal, readSeal}
 use Rattle.codec.proofs.Stands.{Stands, passed, stays}
 use Rattle.codec.proofs.Codes.{Told, Codes, and-true, led, leads, shift, mapped-is, codes-like, codes-byte, codes-byte-if, isByte, codes-sn, codes-said, codes-prefix, codes-identifier, codes-both}

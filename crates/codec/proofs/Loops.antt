@@ -13,9 +13,9 @@ use native.Mathlib.Numerals.{add-one}
 use borrow.Author.Tests.{lt-ltb, leb-true}
 use lib.Dec.{leb}
 use lib.ListN.{length, length-append}
-use Rattle.events.specs.Configs.{hasRoom, pushed}
-use Rattle.codec.specs.declared.cursor.Cursor.{Cursor}
-use Rattle.codec.specs.Readers.{Read, Reader, stopped, need, readByte, times, countUpTo, section}
+use Rattle.events_tel.specs.Configs.{hasRoom, pushed}
+use Rattle.codec_cursor.specs.declared.cursor.Cursor.{Cursor}
+use Rattle.codec_cursor.specs.Readers.{Read, Reader, stopped, need, readByte, times, countUpTo, section}
 
 pub count-within : (limit : ℕ) (s : List ℕ) (c : Cursor) (r : Read ℕ) → r ≡ countUpTo limit s c → r .value ≤ limit
 unfolding countUpTo need

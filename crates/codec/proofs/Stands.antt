@@ -9,8 +9,8 @@ use lib.Seq.{take-length, take-add, drop-drop, take-at, drop-at, length-take-le}
 use Rattle.laws.specs.Room.{room}
 use Rattle.laws.proofs.Room.{room-true, true-room}
 use Rattle.laws.proofs.Tests.{and-left, and-right}
-use Rattle.codec.specs.declared.cursor.Cursor.{Cursor}
-use Rattle.codec.specs.Readers.{placed, stopped, advanced, need}
+use Rattle.codec_cursor.specs.declared.cursor.Cursor.{Cursor}
+use Rattle.codec_cursor.specs.Readers.{placed, stopped, advanced, need}
 
 -- bs are the bytes of s from at on
 abbrev pub Stands : List ℕ → ℕ → List ℕ → Type 0

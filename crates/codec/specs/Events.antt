@@ -8,11 +8,11 @@ use Rattle.cesr.specs.declared.number.Sn.{Sn}
 use Rattle.cesr.specs.declared.primitive.Matter.{Matter}
 use Rattle.cesr.specs.declared.primitive.Said.{Said}
 use Rattle.cesr.specs.declared.primitive.BasicPrefix.{BasicPrefix}
-use Rattle.events.specs.Configs.{viewConfigs}
+use Rattle.events_tel.specs.Configs.{viewConfigs}
 use Rattle.events.specs.Identifiers.{identifierOf}
 use Rattle.events.specs.Members.{view}
-use Rattle.events.specs.TelEvents.{Event}
-use Rattle.events.specs.TelEvents.Event.{vcp, vrt, iss, rev, bis, brv}
+use Rattle.events_tel.specs.TelEvents.{Event}
+use Rattle.events_tel.specs.TelEvents.Event.{vcp, vrt, iss, rev, bis, brv}
 use Rattle.events.specs.declared.seal.Seal.{Seal}
 use Rattle.events.specs.declared.seal.Seal.the-variants.{Digest, Root, Source, Event as EventSeal, Last, Back, Kind, Opaque}
 use Rattle.codec.specs.declared.section.CountRead.{CountRead}
@@ -20,7 +20,7 @@ use Rattle.codec.specs.declared.section.ConfigsRead.{ConfigsRead}
 use Rattle.codec.specs.declared.section.PrefixesRead.{PrefixesRead}
 use Rattle.codec.specs.declared.section.ToadRead.{ToadRead}
 use Rattle.codec.specs.declared.section.SealRead.{SealRead}
-use Rattle.codec.specs.Readers.{Read, Reader, need, readByte, readByteIf, readNumber, readIdentifier, readSaid, readPrefix, mapped, both, after, ended, section}
+use Rattle.codec_cursor.specs.Readers.{Read, Reader, need, readByte, readByteIf, readNumber, readIdentifier, readSaid, readPrefix, mapped, both, after, ended, section}
 
 -- a config byte is 1 to 6
 unfoldable pub isConfig : ℕ → Bool

@@ -14,11 +14,11 @@ use Rattle.cesr.specs.declared.primitive.BasicPrefix.{BasicPrefix}
 use Rattle.events.specs.Identifiers.{matterOf}
 use Rattle.events.specs.declared.identifier.Identifier.{Identifier}
 use Rattle.events.specs.declared.identifier.Identifier.the-variants.{Basic, SelfAddressing}
-use Rattle.events.specs.TelEvents.{Event}
-use Rattle.events.specs.TelEvents.Event.{vcp, vrt, iss, rev, bis, brv}
+use Rattle.events_tel.specs.TelEvents.{Event}
+use Rattle.events_tel.specs.TelEvents.Event.{vcp, vrt, iss, rev, bis, brv}
 use Rattle.events.specs.declared.seal.Seal.{Seal}
 use Rattle.events.specs.declared.seal.Seal.the-variants.{Digest, Root, Source, Event as EventSeal, Last, Back, Kind, Opaque}
-use Rattle.codec.specs.Readers.{isIdentifier}
+use Rattle.codec_cursor.specs.Readers.{isIdentifier}
 use Rattle.codec.specs.Events.{isConfig}
 
 -- the bytes of the elements, one behind the other

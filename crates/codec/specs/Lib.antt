@@ -1,3 +1,2 @@
-pub mod Readers
 pub mod Events
 pub mod Layout

@@ -1,3 +1,2 @@
-// How the layouts are read: a cursor over lent bytes, and the sections that layouts are made of (docs/RULES.md, "Bytes").
-pub mod cursor;
+// The sections that layouts are made of (docs/RULES.md, "Bytes").
 pub mod section;

@@ -1,14 +1,14 @@
 // The sections that a layout is made of: a count byte, then that many elements (docs/RULES.md, "Bytes").
-use crate::cursor::ByteRead;
-use crate::cursor::Cursor;
 use cesr::number::Sn;
-use events::config::Configs;
+use codec_cursor::cursor::ByteRead;
+use codec_cursor::cursor::Cursor;
 use events::identifier::Identifier;
 use events::member_set::Members;
 use events::seal::Seal;
 use events::toad::Toad;
+use events_tel::config::Configs;
 ghost use mathlib.Core.Path.{_≡_};
-ghost use Rattle.codec.specs.Readers.{countUpTo, section, viewByte};
+ghost use Rattle.codec_cursor.specs.Readers.{countUpTo, section, viewByte};
 ghost use Rattle.codec.specs.Events.{readConfig, readConfigs, readPrefixes, readToad, sealOf, readEventSeal, readOtherSeal, readSeal, viewCountRead, viewConfigsRead, viewPrefixesRead, viewToadRead, viewSealRead};
 
 pub struct CountRead {
@@ -170,9 +170,9 @@ pub fn read_seal(c: Cursor, s: &[u8]) -> SealRead
 pub fn pass_seals(c: Cursor, s: &[u8]) -> Cursor
     ensures { λ r. ⌜ r ≡ section 8 readSeal (now (s .entry)) c .next ⌝ }
 {
-    let n = count_up_to(c, s, 8);
-    let count = n.value;
-    let mut next = n.next;
+    let seals = count_up_to(c, s, 8);
+    let count = seals.value;
+    let mut next = seals.next;
     let mut i: usize = 0;
     while i < count {
         let seal = read_seal(next, s);

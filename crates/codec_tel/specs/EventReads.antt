@@ -1,6 +1,6 @@
 -- What the struct of an event that was read stands for.
-use Rattle.events.specs.TelEvents.{Event, viewEvent}
-use Rattle.codec.specs.Readers.{Read}
+use Rattle.events_tel.specs.TelEvents.{Event, viewEvent}
+use Rattle.codec_cursor.specs.Readers.{Read}
 use Rattle.codec_tel.specs.declared.tel.EventRead.{EventRead}
 
 abbrev pub viewEventRead : EventRead → Read Event

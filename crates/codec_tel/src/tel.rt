@@ -2,19 +2,19 @@
 use cesr::number::Sn;
 use cesr::primitive::Matter;
 use cesr::primitive::Said;
-use codec::cursor::Cursor;
 use codec::section::read_configs;
 use codec::section::read_prefixes;
 use codec::section::read_seal;
 use codec::section::read_toad;
-use events::config::Configs;
+use codec_cursor::cursor::Cursor;
 use events::member_set::Members;
 use events::seal::Seal;
-use events::tel::Kind;
-use events::tel::TelEvent;
 use events::toad::Toad;
+use events_tel::config::Configs;
+use events_tel::tel::Kind;
+use events_tel::tel::TelEvent;
 ghost use mathlib.Core.Path.{_≡_};
-ghost use Rattle.codec.specs.Readers.{counted};
+ghost use Rattle.codec_cursor.specs.Readers.{counted};
 ghost use Rattle.codec_tel.specs.EventReads.{viewEventRead};
 ghost use Rattle.codec.specs.Events.{readVcp, readVrt, readIss, readRev, readBis, readBrv, readEvent};
 

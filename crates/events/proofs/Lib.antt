@@ -1,4 +1,3 @@
-pub mod Configs
 pub mod Identifiers
 pub mod Members
 pub mod Toads

@@ -1,7 +1,5 @@
-// The vocabulary of events: thresholds, lists of backers, configuration traits, identifiers, seals, and the events themselves.
-pub mod config;
+// What events are made of: thresholds, lists of backers, identifiers and seals.
 pub mod identifier;
 pub mod member_set;
 pub mod seal;
-pub mod tel;
 pub mod toad;

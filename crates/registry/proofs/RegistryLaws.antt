@@ -3,8 +3,8 @@
 --     limit-chain, limit-list     the members after a rotation, or, where they are too many, the refusal alone
 --     incept-lettered, ingest-lettered   an accepted attempt leaves a state with the letters and bytes of its places
 use Prim.Native.Nat.{ℕ}
-use mathlib.Core.Path.{_≡_, refl, sym, ap, subst, _∙_}
-use mathlib.Core.List.{List, [], _∷_}
+use mathlib.Core.Path.{_≡_, refl, sym, _∙_}
+use mathlib.Core.List.{List}
 use mathlib.Core.Bool.{Bool, true, false, not, cond, _&&_, false≢true}
 use lib.Dec.{leb}
 use lib.ListN.{length}
@@ -13,16 +13,17 @@ use Rattle.cesr.specs.Primitives.{eqSaid}
 use Rattle.cesr.specs.declared.number.Sn.{Sn}
 use Rattle.cesr.specs.declared.primitive.Said.{Said}
 use Rattle.cesr.specs.declared.primitive.BasicPrefix.{BasicPrefix}
-use Rattle.events.specs.Configs.{noBackers}
-use Rattle.events.specs.TelEvents.{Event, eventAs}
-use Rattle.events.specs.TelEvents.Event.{vcp, vrt, iss, rev, bis, brv}
-use Rattle.events.specs.declared.tel.Kind.{Kind}
-use Rattle.events.specs.declared.tel.Kind.the-variants.{Vcp, Vrt, Iss, Rev, Bis, Brv}
-use Rattle.events.specs.declared.tel.TelEvent.{TelEvent}
+use Rattle.events_tel.specs.Configs.{noBackers}
+use Rattle.events_tel.specs.TelEvents.{Event, eventAs}
+use Rattle.events_tel.specs.TelEvents.Event.{vcp, vrt, iss, rev, bis, brv}
+use Rattle.events_tel.specs.declared.tel.Kind.{Kind}
+use Rattle.events_tel.specs.declared.tel.Kind.the-variants.{Vcp, Vrt, Iss, Rev, Bis, Brv}
+use Rattle.events_tel.specs.declared.tel.TelEvent.{TelEvent}
 use Rattle.codec.specs.Layout.{all, goodEvent}
 use Rattle.registry_state.specs.States.{Registry, viewRegistry, wellRegistry, noRegistry}
 use Rattle.registry_state.specs.declared.state.RegistryState.{RegistryState}
-use Rattle.registry_wire.specs.Attempts.{Message, Signature, goodSource, goodAnchors, goodSignature, goodEvidence, goodMessage, viewAttempt, viewDecoded, decodeOf}
+use Rattle.registry_wire.specs.Attempts.{Message, goodSource, goodAnchors, goodEvidence, goodMessage, viewAttempt, viewDecoded, decodeOf}
+use Rattle.registry_seals.specs.SignatureSections.{Signature, goodSignature}
 use Rattle.registry_wire.specs.declared.attempt.Attempt.{Attempt}
 use Rattle.registry_wire.specs.declared.attempt.DecodedAttempt.{DecodedAttempt}
 use Rattle.registry_error.specs.Answers.{accepts, acceptIf, orElse, firstOf}
@@ -32,9 +33,10 @@ use Rattle.registry_error.specs.declared.error.RegistryRejection.{RegistryRejec
 use Rattle.registry_error.specs.declared.error.RegistryRejection.the-variants.{Malformed, TooManyBackers, InconsistentRegistry, RotationOnBackerlessRegistry, PriorDigestMismatch}
 use Rattle.registry_authentication.specs.Issuers.{issuerKind, authenticateIssuer}
 use Rattle.registry_authentication.specs.Backers.{enoughReceipts}
-use Rattle.registry.specs.RegistryFolds.{Outcome, thresholdFits, nextSn, inceptEvent, inceptAnswer, incepted, inceptMessage, inceptOf, vrtBackers, vrtAnswer, ingestEvent, rotated, ingestMessage, ingestOf, viewOutcome, Ingested}
+use Rattle.registry.specs.RegistryFolds.{thresholdFits, inceptEvent, inceptAnswer, incepted, inceptMessage, inceptOf, vrtBackers, vrtAnswer, ingestEvent, rotated, ingestMessage, ingestOf, Ingested}
+use Rattle.registry_verification.specs.Sequence.{nextSn}
 use Rattle.registry.specs.declared.registry.RegistryOutcome.{RegistryOutcome}
-use Rattle.registry.proofs.AnswerLaws.{or-first, or-second, passed}
+use Rattle.registry_error.proofs.AnswerLaws.{or-first, or-second, passed}
 use Rattle.registry.proofs.WellLaws.{Lettered, good-incepted, good-rotated}
 
 pub good-event : (m : Message) → goodMessage m ≡ true → goodEvent (m .event) ≡ true

@@ -16,10 +16,10 @@ use Rattle.cesr.specs.declared.primitive.Matter.{Matter}
 use Rattle.cesr.specs.declared.primitive.Said.{Said}
 use Rattle.cesr.specs.declared.primitive.BasicPrefix.{BasicPrefix}
 use Rattle.cesr.specs.declared.number.Sn.{Sn}
-use Rattle.events.specs.Configs.{viewConfigs}
+use Rattle.events_tel.specs.Configs.{viewConfigs}
 use Rattle.events.specs.Members.{view, has}
-use Rattle.events.specs.TelEvents.Event.{vcp, vrt}
-use Rattle.codec.specs.Readers.{isIdentifier}
+use Rattle.events_tel.specs.TelEvents.Event.{vcp, vrt}
+use Rattle.codec_cursor.specs.Readers.{isIdentifier}
 use Rattle.codec.specs.Events.{isConfig}
 use Rattle.codec.specs.Layout.{all, isMatter, goodSaid, goodPrefix, goodIdentifier, goodToad, goodSn, goodConfigs, goodPrefixes, goodEvent}
 use Rattle.registry_state.specs.States.{Registry, viewRegistry, isBacker, wellRegistry}

@@ -1,2 +1,1 @@
-pub mod CredentialFolds
 pub mod RegistryFolds

@@ -1,30 +1,31 @@
 -- The folds of a registry: its inception and its rotations (docs/RULES.md, "Orders", "Next states").
-use Prim.Native.Nat.{ℕ, _+_, _-_, _^_, _≤_}
+use Prim.Native.Nat.{ℕ, _-_, _≤_}
 use mathlib.Core.Path.{_≡_}
 use mathlib.Core.List.{List, [], _∷_}
-use mathlib.Core.Bool.{Bool, true, false, not, cond, _&&_}
+use mathlib.Core.Bool.{true, false, not, cond, _&&_}
 use lib.Dec.{eqb, leb}
 use lib.ListN.{length}
-use Rattle.cesr.specs.Numbers.{value, snOf}
 use Rattle.cesr.specs.Primitives.{eqSaid}
 use Rattle.cesr.specs.declared.number.Sn.{Sn}
 use Rattle.cesr.specs.declared.primitive.Matter.{Matter}
 use Rattle.cesr.specs.declared.primitive.Said.{Said}
 use Rattle.cesr.specs.declared.primitive.BasicPrefix.{BasicPrefix}
-use Rattle.events.specs.Configs.{noBackers}
+use Rattle.events_tel.specs.Configs.{noBackers}
 use Rattle.events.specs.Members.{checkMembers, checkDeltas, checkCurrent}
-use Rattle.events.specs.TelEvents.{Event, snZero}
-use Rattle.events.specs.TelEvents.Event.{vcp, vrt, iss, rev, bis, brv}
+use Rattle.events_tel.specs.TelEvents.{Event, snZero}
+use Rattle.events_tel.specs.TelEvents.Event.{vcp, vrt, iss, rev, bis, brv}
 use Rattle.events.specs.Toads.{exactOk}
 use Rattle.registry_state.specs.States.{Registry, viewRegistry, noRegistry, wellRegistry}
 use Rattle.registry_state.specs.declared.state.RegistryState.{RegistryState}
-use Rattle.registry_wire.specs.Attempts.{Message, Signature, Decoded, decodeOf, Holds, anchorsIn, goodAnchors, viewAttempt}
+use Rattle.registry_wire.specs.Attempts.{Message, Decoded, decodeOf, viewAttempt}
+use Rattle.registry_seals.specs.SignatureSections.{Signature}
 use Rattle.registry_wire.specs.Attempts.Decoded.{malformed, decoded}
 use Rattle.registry_wire.specs.declared.attempt.Attempt.{Attempt}
-use Rattle.registry_error.specs.declared.error.RegistryRejection.the-variants.{Malformed, DuplicateInception, NotRegistryInception, NotManagementRotation, InconsistentRegistry, NoBackersWithBackers, RotationOnBackerlessRegistry, SequenceNumberOverflow, OutOfOrder, PriorDigestMismatch, InconsistentIssuer, TooManyBackers, BackerThreshold}
+use Rattle.registry_error.specs.declared.error.RegistryRejection.the-variants.{Malformed, DuplicateInception, NotRegistryInception, NotManagementRotation, InconsistentRegistry, NoBackersWithBackers, RotationOnBackerlessRegistry, PriorDigestMismatch, InconsistentIssuer, TooManyBackers, BackerThreshold}
 use Rattle.registry_error.specs.declared.error.Answer.{Answer}
-use Rattle.registry_error.specs.declared.error.Answer.the-variants.{Accepted, Rejected}
+use Rattle.registry_error.specs.declared.error.Answer.the-variants.{Rejected}
 use Rattle.registry_error.specs.Answers.{accepts, acceptIf, backerSet, orElse, firstOf}
+use Rattle.registry_verification.specs.Sequence.{nextSn}
 use Rattle.registry_verification.specs.Updated.{updatedMembers}
 use Rattle.registry_authentication.specs.Issuers.{issuerKind, namesIssuer, anchored, authenticateIssuer}
 use Rattle.registry_authentication.specs.Backers.{enoughReceipts}
@@ -34,16 +35,6 @@ use Rattle.registry.specs.declared.registry.RegistryOutcome.{RegistryOut
 pub record Outcome : Type 0 where
   pub answer : Answer
   pub state : Registry
-
--- the sn that comes behind another
-abbrev pub snBehind : Sn → Sn
-snBehind held = snOf (value held + 1)
-
--- 15: nothing comes behind the last; 16: the event has another sn than the next
-unfoldable pub nextSn : Sn → Sn → Answer
-nextSn held sn =
-    cond (eqb (value held) (2 ^ 128 - 1)) (Rejected SequenceNumberOverflow)
-    (acceptIf (eqb (value sn) (value (snBehind held))) (OutOfOrder (snBehind held) sn))
 
 -- 26 of vcp and vrt
 unfoldable pub thresholdFits : ℕ → List BasicPrefix → Answer
@@ -153,13 +144,6 @@ ingestOf g s = cond (wellRegistry g) (ingestDecoded (viewRegistry g) (decodeOf s
 -- what the code's struct stands for
 abbrev pub viewOutcome : RegistryOutcome → Outcome
 viewOutcome r = record { answer = r .answer; state = viewRegistry (r .state) }
-
--- what is known of the parts of an attempt that was decoded: each holds its anchoring event, at most one and within the limits
-pub record Anchored (s : List ℕ) (a : Attempt) : Type 0 where
-  pub message : Holds s (a .anchor)
-  pub good-message : goodAnchors (anchorsIn s (a .anchor)) ≡ true
-  pub carried : Holds s (a .carried)
-  pub good-carried : a .evidence ≡ 1 → goodAnchors (anchorsIn s (a .carried)) ≡ true
 
 -- what a fold of a decoded attempt leaves: the definition's outcome; after a refusal the state itself, else one whose counts are within the limits
 pub record Ingested (s : List ℕ) (g : RegistryState) (a : Attempt) (r : RegistryOutcome) : Type 0 where

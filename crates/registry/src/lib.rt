@@ -1,4 +1,2 @@
-// The folds of registries and credentials: from an attempt and the states that it needs to a refusal or to the next state (docs/RULES.md, "Orders").
-mod anchor;
-pub mod credential_state;
+// The folds of a registry: from an attempt and the state before it to a refusal or to the next state (docs/RULES.md, "Orders").
 pub mod registry;

@@ -1,15 +1,14 @@
 // The folds of a registry: its inception and its rotations (docs/RULES.md, "Orders", "Next states").
-use crate::anchor::authenticate_issuer;
-use crate::anchor::message_anchored;
-use crate::anchor::next_sn;
 use cesr::number::Sn;
 use events::member_set::MemberSet;
 use events::member_set::Members;
-use events::tel::Kind;
-use events::tel::TelEvent;
 use events::toad::Toad;
+use events_tel::tel::Kind;
+use events_tel::tel::TelEvent;
 use registry_authentication::backer::enough_receipts;
+use registry_authentication::issuer::authenticate_issuer;
 use registry_authentication::issuer::issuer_kind;
+use registry_authentication::issuer::message_anchored;
 use registry_authentication::issuer::names_issuer;
 use registry_error::answer::accept_if;
 use registry_error::answer::accepts;
@@ -18,21 +17,24 @@ use registry_error::answer::or_else;
 use registry_error::error::Answer;
 use registry_error::error::RegistryRejection;
 use registry_state::state::RegistryState;
+use registry_verification::sequence::next_sn;
 use registry_verification::state::updated_members;
 use registry_wire::attempt::Attempt;
 ghost use Prim.Native.Nat.{_≤_};
 ghost use mathlib.Core.Path.{_≡_};
 ghost use mathlib.Core.Bool.{true, false};
-ghost use Rattle.events.specs.Configs.{viewConfigs};
+ghost use Rattle.events_tel.specs.Configs.{viewConfigs};
 ghost use Rattle.events.specs.Members.{view};
-ghost use Rattle.events.specs.TelEvents.{viewEvent};
-ghost use Rattle.events.specs.declared.tel.Kind.the-variants.{Vcp, Vrt};
+ghost use Rattle.events_tel.specs.TelEvents.{viewEvent};
+ghost use Rattle.events_tel.specs.declared.tel.Kind.the-variants.{Vcp, Vrt};
 ghost use Rattle.registry_state.specs.States.{viewRegistry, wellRegistry};
-ghost use Rattle.registry_wire.specs.Attempts.{viewAttempt, signaturesIn};
+ghost use Rattle.registry_wire.specs.Attempts.{viewAttempt};
+ghost use Rattle.registry_seals.specs.SignatureSections.{signaturesIn};
 ghost use Rattle.registry_error.specs.declared.error.Answer.the-variants.{Rejected};
 ghost use Rattle.registry_error.specs.Answers.{accepts};
 ghost use Rattle.registry_verification.specs.Updated.{updatedMembers};
-ghost use Rattle.registry.specs.RegistryFolds.{Anchored, Ingested, thresholdFits, vcpAnswer, inceptEvent, inceptMessage, incepted, inceptOf, vrtBackers, vrtAnswer, ingestOf, viewOutcome};
+ghost use Rattle.registry_authentication.specs.Issuers.{Anchored};
+ghost use Rattle.registry.specs.RegistryFolds.{Ingested, thresholdFits, vcpAnswer, inceptEvent, inceptMessage, incepted, inceptOf, vrtBackers, vrtAnswer, ingestOf, viewOutcome};
 
 // An answer, and the state behind it: the next one, or after a refusal the one that was handed in. Where none is handed in it is blank.
 pub struct RegistryOutcome {
@@ -198,8 +200,8 @@ fn rotate(g: RegistryState, a: Attempt, s: &[u8]) -> RegistryOutcome
 {
     let rotation = vrt_backers(g.backers, a, s);
     let late = rotation.answer;
-    let answer = vrt_answer(g, a, s, late);
-    if accepts(answer) {
+    let verdict = vrt_answer(g, a, s, late);
+    if accepts(verdict) {
         let id = g.id;
         let issuer = g.issuer;
         let sn = a.event.sn;
@@ -216,9 +218,15 @@ fn rotate(g: RegistryState, a: Attempt, s: &[u8]) -> RegistryOutcome
             configs,
             backers,
         };
-        return RegistryOutcome { answer, state };
+        return RegistryOutcome {
+            answer: verdict,
+            state,
+        };
     }
-    RegistryOutcome { answer, state: g }
+    RegistryOutcome {
+        answer: verdict,
+        state: g,
+    }
 }
 
 // A refusal: the state stays.

@@ -1,2 +1,3 @@
 pub mod AnchorTie
+pub mod AnchorUse
 pub mod EvidenceLaws

@@ -15,7 +15,8 @@ use Rattle.events.specs.Toads.{exactOk}
 use Rattle.events.specs.declared.seal.Seal.{Seal}
 use Rattle.events.specs.declared.seal.Seal.the-variants.{Digest, Root, Source, Event, Last, Back, Kind, Opaque}
 use Rattle.registry_state.specs.States.{Registry}
-use Rattle.registry_wire.specs.Attempts.{Signature, Evidence}
+use Rattle.registry_seals.specs.SignatureSections.{Signature}
+use Rattle.registry_wire.specs.Attempts.{Evidence}
 use Rattle.registry_wire.specs.Attempts.Evidence.{missing, issuer, backer, backerAt}
 use Rattle.registry_error.specs.declared.error.RegistryRejection.the-variants.{InconsistentRegistry, InconsistentIssuer, InconsistentManagement, UnresolvedAnchor, BackerThreshold, MissingBackerReceipts}
 use Rattle.registry_error.specs.declared.error.Answer.{Answer}

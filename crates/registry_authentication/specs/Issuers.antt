@@ -1,7 +1,8 @@
 -- The issuer's evidence and the anchoring event (docs/RULES.md, "Evidence", "Anchoring events").
 use Prim.Native.Nat.{ℕ}
+use mathlib.Core.Path.{_≡_}
 use mathlib.Core.List.{List, [], _∷_}
-use mathlib.Core.Bool.{Bool, false, cond, _&&_}
+use mathlib.Core.Bool.{Bool, true, false, cond, _&&_}
 use lib.Dec.{eqb}
 use lib.ListN.{length}
 use Rattle.cesr.specs.Numbers.{value, readSn}
@@ -9,8 +10,11 @@ use Rattle.cesr.specs.Primitives.{eqMatter, eqSaid, readMatter}
 use Rattle.cesr.specs.declared.number.Sn.{Sn}
 use Rattle.cesr.specs.declared.primitive.Matter.{Matter}
 use Rattle.cesr.specs.declared.primitive.Said.{Said}
-use Rattle.registry_wire.specs.Attempts.{Anchor, Evidence, Message, chosenAnchors, onlySeal, sealSection, anchorSeals}
+use Rattle.registry_wire.specs.Attempts.{Anchor, Evidence, Message, chosenAnchors}
+use Rattle.registry_seals.specs.SealSections.{onlySeal, sealSection, anchorSeals}
 use Rattle.registry_wire.specs.Attempts.Evidence.{missing, issuer, backer, backerAt}
+use Rattle.registry_wire.specs.Attempts.{goodAnchors, anchorsIn, Holds}
+use Rattle.registry_wire.specs.declared.attempt.Attempt.{Attempt}
 use Rattle.registry_wire.specs.declared.attempt.Source.{Source}
 use Rattle.registry_error.specs.declared.error.RegistryRejection.the-variants.{MissingIssuer, InconsistentIssuer, MissingAnchor, InconsistentAnchor}
 use Rattle.registry_error.specs.declared.error.Answer.{Answer}
@@ -69,3 +73,19 @@ anchoredIn i id sn said (x ∷ l) event =
     ((eqMatter (readMatter event 0) i && (eqb (value (readSn event 33)) (value (x .sn)) && eqMatter (readMatter event 49) (x .said .0)))
     && anchorSeals (sealSection event) (id .0) sn said)
     InconsistentAnchor)
+
+-- 18 to 21 of vrt, iss and rev, of an anchoring event in bytes
+unfoldable pub authenticateIn : Matter → Said → Sn → Said → Evidence → List Source → List ℕ → Answer
+authenticateIn i id sn said e sources event =
+    firstOf
+    (issuerKind e
+    ∷ acceptIf (namesIssuer e i) InconsistentIssuer
+    ∷ anchoredIn i id sn said sources event
+    ∷ [])
+
+-- what is known of the parts of an attempt that was decoded: each holds its anchoring event, at most one and within the limits
+pub record Anchored (s : List ℕ) (a : Attempt) : Type 0 where
+  pub message : Holds s (a .anchor)
+  pub good-message : goodAnchors (anchorsIn s (a .anchor)) ≡ true
+  pub carried : Holds s (a .carried)
+  pub good-carried : a .evidence ≡ 1 → goodAnchors (anchorsIn s (a .carried)) ≡ true

@@ -3,25 +3,29 @@ use cesr::number::Sn;
 use cesr::primitive::Matter;
 use cesr::primitive::Said;
 use registry_error::answer::accept_if;
+use registry_error::answer::or_else;
 use registry_error::error::Answer;
 use registry_error::error::RegistryRejection;
+use registry_seals::seals::anchor_seals;
+use registry_seals::seals::chosen;
+use registry_seals::seals::chosen_seals;
+use registry_wire::attempt::Attempt;
+use registry_wire::attempt::Part;
 use registry_wire::attempt::Source;
-use registry_wire::seals::anchor_seals;
-use registry_wire::seals::chosen;
-use registry_wire::seals::chosen_seals;
 ghost use Prim.Native.Nat.{ℕ};
 ghost use mathlib.Core.Path.{_≡_};
 ghost use mathlib.Core.List.{List};
 ghost use Rattle.cesr.specs.declared.primitive.Matter.{Matter as MatterValue};
 ghost use Rattle.registry_state.specs.States.{optional};
 ghost use Rattle.registry_state.specs.declared.state.RegistryState.{RegistryState};
-ghost use Rattle.registry_wire.specs.Attempts.{evidenceAs, chosen as chosenEvent};
-ghost use Rattle.registry_wire.specs.declared.attempt.Part.{Part};
-ghost use Rattle.registry_authentication.specs.Issuers.{issuerKind, namesIssuer, anchoredIn};
+ghost use Rattle.registry_wire.specs.Attempts.{evidenceAs, sourcesIn, evidenceIn, partOf};
+ghost use Rattle.registry_seals.specs.SealSections.{chosen as chosenEvent};
+ghost use Rattle.registry_wire.specs.declared.attempt.Part.{Part as PartValue};
+ghost use Rattle.registry_authentication.specs.Issuers.{issuerKind, namesIssuer, anchoredIn, authenticateIn};
 
 // Whether the evidence that is due, Issuer, is there: by its byte, whatever it holds.
 pub fn issuer_kind(evidence: u8) -> Answer
-    ensures { λ r. ⌜ ((b : List ℕ) (p : MatterValue) (c : Part) (g : RegistryState) → r ≡ issuerKind (evidenceAs b evidence p c g)) ⌝ }
+    ensures { λ r. ⌜ ((b : List ℕ) (p : MatterValue) (c : PartValue) (g : RegistryState) → r ≡ issuerKind (evidenceAs b evidence p c g)) ⌝ }
 {
     if evidence == 1 {
         return Answer::Accepted;
@@ -37,7 +41,7 @@ pub fn issuer_kind(evidence: u8) -> Answer
 
 // Whether it is Issuer and its prefix this one.
 pub fn names_issuer(evidence: u8, prefix: Matter, issuer: Matter) -> bool
-    ensures { λ r. ⌜ ((b : List ℕ) (c : Part) (g : RegistryState) → r ≡ namesIssuer (evidenceAs b evidence prefix c g) issuer) ⌝ }
+    ensures { λ r. ⌜ ((b : List ℕ) (c : PartValue) (g : RegistryState) → r ≡ namesIssuer (evidenceAs b evidence prefix c g) issuer) ⌝ }
 {
     if evidence != 1 {
         return false;
@@ -71,4 +75,45 @@ pub fn verify_kel_anchor<'a>(
     let head = prefix.same(issuer) & (at.same(source.sn) & digest.same(source.said.0));
     let sealed = anchor_seals(chosen_seals(evidence, message), id.0, sn, said);
     accept_if(head & sealed, RegistryRejection::InconsistentAnchor)
+}
+
+// The message's anchoring event alone: of vcp, bis and brv.
+pub fn message_anchored(a: Attempt, s: &[u8], issuer: Matter, id: Said, sn: Sn) -> Answer
+    ensures { λ r. ⌜ r ≡ anchoredIn issuer id sn (a .event .said) (sourcesIn a) (partOf (now (s .entry)) (a .anchor)) ⌝ }
+{
+    let none = Part { from: 0, to: 0 };
+    let evidence = none.bytes(s);
+    let message = a.anchor.bytes(s);
+    verify_kel_anchor(
+        evidence,
+        message,
+        a.sources,
+        a.source,
+        issuer,
+        id,
+        sn,
+        a.event.said,
+    )
+}
+
+// The issuer's evidence, and the anchoring event that it carries, else the message's: of vrt, iss and rev.
+pub fn authenticate_issuer(a: Attempt, s: &[u8], issuer: Matter, id: Said, sn: Sn) -> Answer
+    ensures { λ r. ⌜ r ≡ authenticateIn issuer id sn (a .event .said) (evidenceIn (now (s .entry)) a) (sourcesIn a) (chosenEvent (partOf (now (s .entry)) (a .carried)) (partOf (now (s .entry)) (a .anchor))) ⌝ }
+{
+    let kind = issuer_kind(a.evidence);
+    let named = names_issuer(a.evidence, a.issuer, issuer);
+    let prefix = accept_if(named, RegistryRejection::InconsistentIssuer);
+    let evidence = a.carried.bytes(s);
+    let message = a.anchor.bytes(s);
+    let anchor = verify_kel_anchor(
+        evidence,
+        message,
+        a.sources,
+        a.source,
+        issuer,
+        id,
+        sn,
+        a.event.said,
+    );
+    or_else(kind, or_else(prefix, or_else(anchor, Answer::Accepted)))
 }

@@ -7,9 +7,10 @@ use Rattle.cesr.specs.Numbers.{value}
 use Rattle.cesr.specs.Primitives.{eqMatter, eqSaid}
 use Rattle.cesr.specs.declared.primitive.Matter.{Matter}
 use Rattle.cesr.specs.declared.primitive.Said.{Said}
-use Rattle.registry_state.specs.States.{Registry, Reference, Status, StatusAnswer, decodeStatus}
-use Rattle.registry_state.specs.States.Reference.{unnamed, named, block}
-use Rattle.registry_state.specs.States.StatusAnswer.{malformed, decoded}
+use Rattle.registry_state.specs.States.{Registry}
+use Rattle.registry_status.specs.Statuses.{Reference, Status, StatusAnswer, decodeStatus}
+use Rattle.registry_status.specs.Statuses.Reference.{unnamed, named, block}
+use Rattle.registry_status.specs.Statuses.StatusAnswer.{malformed, decoded}
 use Rattle.registry_state.specs.declared.state.CredentialState.{CredentialState}
 use Rattle.registry_error.specs.Errors.{errorNumber}
 use Rattle.registry_error.specs.declared.error.CredentialError.{CredentialError}

@@ -1,9 +1,10 @@
 // Whether a credential is its issuer's and stands unrevoked under its registry (docs/RULES.md, "Status").
 use cesr::number::Sn;
 use registry_error::error::CredentialError;
-use registry_state::state::StatusInput;
+use registry_status::status::StatusInput;
 ghost use mathlib.Core.Path.{_≡_};
-ghost use Rattle.registry_state.specs.States.{viewRegistry, viewStatus};
+ghost use Rattle.registry_state.specs.States.{viewRegistry};
+ghost use Rattle.registry_status.specs.Statuses.{viewStatus};
 ghost use Rattle.registry_credential.specs.Status.{statusOf, judged, binding, statusNumber};
 
 // What `status` answers: its input comes as bytes, so they may be malformed.

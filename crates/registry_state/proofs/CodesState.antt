@@ -15,9 +15,9 @@ use Rattle.laws.specs.Number.{Bytes}
 use Rattle.laws.specs.Room.{put}
 use Rattle.laws.proofs.Tests.{and-left, and-right}
 use Rattle.cesr.specs.Primitives.{isBasic, isSaid}
-use Rattle.events.specs.Configs.{viewConfigs}
+use Rattle.events_tel.specs.Configs.{viewConfigs}
 use Rattle.events.specs.Members.{view}
-use Rattle.codec.specs.Readers.{placed, isIdentifier}
+use Rattle.codec_cursor.specs.Readers.{placed, isIdentifier}
 use Rattle.codec.specs.Events.{isConfig}
 use Rattle.codec.specs.Layout.{all, isMatter, goodSaid, goodIdentifier, goodSn, goodToad, goodConfigs, goodPrefix, goodPrefixes}
 use Rattle.codec.proofs.CodesRound.{codes-back, codes-again}

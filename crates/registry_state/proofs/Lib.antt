@@ -1,3 +1,2 @@
 pub mod StateLoops
 pub mod CodesState
-pub mod CodesStatus

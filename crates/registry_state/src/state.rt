@@ -1,26 +1,25 @@
-// States of registries and credentials, and the input of `status`. States hold numbers alone, since a host lends them as memory and every pattern of bits has to be a value.
+// States of registries and credentials. They hold numbers alone, since a host lends them as memory and every pattern of bits has to be a value.
 use cesr::number::Sn;
-use cesr::number::has_room;
-use cesr::number::write_u32;
 use cesr::primitive::Matter;
 use cesr::primitive::Said;
-use codec::cursor::Cursor;
-use codec::section::count_up_to;
 use codec::section::read_configs;
 use codec::section::read_prefixes;
-use events::config::Configs;
+use codec_cursor::cursor::Cursor;
 use events::member_set::Members;
 use events::toad::Toad;
+use events_tel::config::Configs;
+use registry_bytes::writer::state_size;
+use registry_bytes::writer::write_credential;
+use registry_bytes::writer::write_registry;
 ghost use mathlib.Core.Path.{_≡_};
-ghost use Prim.Native.Nat.{_+_, _*_, _≤_};
+ghost use Prim.Native.Nat.{_+_};
 ghost use lib.ListN.{length};
-ghost use lib.Seq.{sets};
 ghost use Rattle.laws.specs.Room.{room, put};
-ghost use Rattle.events.specs.Configs.{viewConfigs};
+ghost use Rattle.events_tel.specs.Configs.{viewConfigs};
 ghost use Rattle.events.specs.Members.{view};
 ghost use Rattle.codec.specs.Events.{isConfig};
-ghost use Rattle.codec.specs.Layout.{sectionBytes, byteBytes, prefixBytes, all};
-ghost use Rattle.registry_state.specs.States.{viewRegistry, registryBytes, credentialBytes, headBytes, restBytes, readRegistry, readCredential, viewRegistryRead, viewCredentialRead, noRegistry, noCredential, readReference, readRegistries, readCredentials, readIssuers, readStatus, decodeStatus, viewReferenceRead, viewRegistriesRead, viewCredentialsRead, viewIssuersRead, viewStatusRead, viewDecodedStatus, isBacker, wellRegistry, wellCredential};
+ghost use Rattle.codec.specs.Layout.{all};
+ghost use Rattle.registry_state.specs.States.{viewRegistry, registryBytes, credentialBytes, readRegistry, readCredential, viewRegistryRead, viewCredentialRead, noRegistry, noCredential, isBacker, wellRegistry, wellCredential};
 
 pub struct RegistryState {
     pub id: Said,
@@ -50,58 +49,6 @@ pub struct RegistryRead {
 pub struct CredentialRead {
     pub value: CredentialState,
     pub next: Cursor,
-}
-
-// The input of `status`: a credential, and what is known about it. Each of the three counts is 0 or 1; where it is 0, what it counts is blank.
-pub struct StatusInput {
-    pub said: Said,
-    // An identifier.
-    pub issuer: Matter,
-    // About the credential's registry: 0 none, 1 the digest that names it, 2 a block.
-    pub reference: u8,
-    pub named: Said,
-    pub registries: usize,
-    pub registry: RegistryState,
-    pub credentials: usize,
-    pub credential: CredentialState,
-    pub issuers: usize,
-    // The prefix of the issuer's state, an identifier.
-    pub prefix: Matter,
-}
-
-// What the decoder answers. Where the bytes are malformed the input means nothing.
-pub struct DecodedStatus {
-    pub ok: bool,
-    pub input: StatusInput,
-}
-
-struct ReferenceRead {
-    reference: u8,
-    said: Said,
-    next: Cursor,
-}
-
-struct RegistriesRead {
-    count: usize,
-    registry: RegistryState,
-    next: Cursor,
-}
-
-struct CredentialsRead {
-    count: usize,
-    credential: CredentialState,
-    next: Cursor,
-}
-
-struct IssuersRead {
-    count: usize,
-    issuer: Matter,
-    next: Cursor,
-}
-
-struct StatusRead {
-    value: StatusInput,
-    next: Cursor,
 }
 
 impl RegistryState {
@@ -138,19 +85,24 @@ impl RegistryState {
     pub fn size(self) -> usize
         ensures { λ r. ⌜ r ≡ length (registryBytes (viewRegistry self)) ⌝ }
     {
-        121 + self.configs.size() + 33 * self.backers.size()
+        state_size(self.configs, self.backers)
     }
 
     // Stores all its bytes or none, and answers which.
     pub fn write(self, out: &mut [u8], at: usize) -> bool
         ensures { λ r. ⌜ (r ≡ room (now (out .entry)) at (length (registryBytes (viewRegistry self)))) × (now (out .exit) ≡ put (now (out .entry)) at (registryBytes (viewRegistry self))) ⌝ }
     {
-        if !has_room(out.len(), at, self.size()) {
-            return false;
-        }
-        write_head(out, at, self.id.0, self.issuer, self.sn, self.latest.0);
-        write_rest(out, at + 115, self.toad, self.configs, self.backers);
-        true
+        write_registry(
+            out,
+            at,
+            self.id.0,
+            self.issuer,
+            self.sn,
+            self.latest.0,
+            self.toad,
+            self.configs,
+            self.backers,
+        )
     }
 
     pub fn read(c: Cursor, s: &[u8]) -> RegistryRead
@@ -209,18 +161,14 @@ impl CredentialState {
     pub fn write(self, out: &mut [u8], at: usize) -> bool
         ensures { λ r. ⌜ (r ≡ room (now (out .entry)) at 115) × (now (out .exit) ≡ put (now (out .entry)) at (credentialBytes self)) ⌝ }
     {
-        if !has_room(out.len(), at, 115) {
-            return false;
-        }
-        write_head(
+        write_credential(
             out,
             at,
             self.registry.0,
             self.credential.0,
             self.sn,
             self.head.0,
-        );
-        true
+        )
     }
 
     pub fn read(c: Cursor, s: &[u8]) -> CredentialRead
@@ -242,146 +190,6 @@ impl CredentialState {
             head,
         };
         CredentialRead { value, next }
-    }
-}
-
-impl StatusInput {
-    // Nothing may follow the third section.
-    pub fn decode(s: &[u8]) -> DecodedStatus
-        ensures { λ r. ⌜ viewDecodedStatus r ≡ decodeStatus (now (s .entry)) ⌝ }
-    {
-        let r = read_status(Cursor::start(), s);
-        let ok = r.next.ok & (r.next.at == s.len());
-        let input = r.value;
-        DecodedStatus { ok, input }
-    }
-}
-
-fn read_status(c: Cursor, s: &[u8]) -> StatusRead
-    ensures { λ r. ⌜ viewStatusRead r ≡ readStatus (now (s .entry)) c ⌝ }
-{
-    let said = c.said(s);
-    let issuer = said.next.identifier(s);
-    let about = read_reference(issuer.next, s);
-    let known = read_registries(about.next, s);
-    let held = read_credentials(known.next, s);
-    let given = read_issuers(held.next, s);
-    let next = given.next;
-    let said = said.value;
-    let issuer = issuer.value;
-    let named = about.said;
-    let registry = known.registry;
-    let credential = held.credential;
-    let prefix = given.issuer;
-    let value = StatusInput {
-        said,
-        issuer,
-        reference: about.reference,
-        named,
-        registries: known.count,
-        registry,
-        credentials: held.count,
-        credential,
-        issuers: given.count,
-        prefix,
-    };
-    StatusRead { value, next }
-}
-
-// The byte about a credential's registry, and the digest behind a 1.
-fn read_reference(c: Cursor, s: &[u8]) -> ReferenceRead
-    ensures { λ r. ⌜ viewReferenceRead r ≡ readReference (now (s .entry)) c ⌝ }
-{
-    let b = c.byte(s);
-    let reference = b.value;
-    let start = b.next;
-    if reference == 1 {
-        let d = start.said(s);
-        let said = d.value;
-        let next = d.next;
-        return ReferenceRead {
-            reference,
-            said,
-            next,
-        };
-    }
-    let next = start.expect_that((reference == 0) | (reference == 2));
-    ReferenceRead {
-        reference,
-        said: Said(Matter::none()),
-        next,
-    }
-}
-
-// A section of at most one registry state.
-fn read_registries(c: Cursor, s: &[u8]) -> RegistriesRead
-    ensures { λ r. ⌜ viewRegistriesRead r ≡ readRegistries (now (s .entry)) c ⌝ }
-{
-    let n = count_up_to(c, s, 1);
-    let count = n.value;
-    let start = n.next;
-    if count == 0 {
-        return RegistriesRead {
-            count,
-            registry: RegistryState::none(),
-            next: start,
-        };
-    }
-    let r = RegistryState::read(start, s);
-    let registry = r.value;
-    let next = r.next;
-    RegistriesRead {
-        count,
-        registry,
-        next,
-    }
-}
-
-// A section of at most one credential state.
-fn read_credentials(c: Cursor, s: &[u8]) -> CredentialsRead
-    ensures { λ r. ⌜ viewCredentialsRead r ≡ readCredentials (now (s .entry)) c ⌝ }
-{
-    let n = count_up_to(c, s, 1);
-    let count = n.value;
-    let start = n.next;
-    if count == 0 {
-        return CredentialsRead {
-            count,
-            credential: CredentialState::none(),
-            next: start,
-        };
-    }
-    let r = CredentialState::read(start, s);
-    let credential = r.value;
-    let next = r.next;
-    CredentialsRead {
-        count,
-        credential,
-        next,
-    }
-}
-
-// A section of at most one issuer prefix.
-fn read_issuers(c: Cursor, s: &[u8]) -> IssuersRead
-    ensures { λ r. ⌜ viewIssuersRead r ≡ readIssuers (now (s .entry)) c ⌝ }
-{
-    let n = count_up_to(c, s, 1);
-    let count = n.value;
-    let start = n.next;
-    if count == 0 {
-        return IssuersRead {
-            count,
-            issuer: Matter::none(),
-            next: start,
-        };
-    }
-    let r = start.identifier(s);
-    let issuer = r.value;
-    let next = r.next;
-    IssuersRead {
-        count,
-        issuer,
-        next,
     }
 }
 
@@ -418,55 +226,4 @@ fn all_backers(backers: Members) -> bool
         i += 1;
     }
     true
-}
-
-// Two primitives, a number and a primitive, in 115 bytes.
-fn write_head(out: &mut [u8], at: usize, a: Matter, b: Matter, sn: Sn, d: Matter)
-    requires { ⌜ at + 115 ≤ length (now out) ⌝ }
-    ensures { λ r. ⌜ now (out .exit) ≡ sets (now (out .entry)) at (headBytes a b sn d) ⌝ }
-{
-    a.write(out, at);
-    b.write(out, at + 33);
-    sn.write(out, at + 66);
-    d.write(out, at + 82);
-}
-
-// The threshold and the two sections of a registry state.
-fn write_rest(out: &mut [u8], at: usize, toad: Toad, configs: Configs, backers: Members)
-    requires { ⌜ at + (6 + length (viewConfigs configs) + 33 * length (view backers)) ≤ length (now out) ⌝ }
-    ensures { λ r. ⌜ now (out .exit) ≡ sets (now (out .entry)) at (restBytes (toad .0) (viewConfigs configs) (view backers)) ⌝ }
-{
-    write_u32(out, at, toad.value());
-    let from = at + 4;
-    write_configs(&mut out[from..], configs);
-    let behind = from + 1 + configs.size();
-    write_backers(&mut out[behind..], backers);
-}
-
-// The count of the config bytes, then the bytes.
-fn write_configs(out: &mut [u8], configs: Configs)
-    requires { ⌜ 1 + length (viewConfigs configs) ≤ length (now out) ⌝ }
-    ensures { λ r. ⌜ now (out .exit) ≡ sets (now (out .entry)) 0 (sectionBytes byteBytes (viewConfigs configs)) ⌝ }
-{
-    let n = configs.size();
-    out[0] = n as u8;
-    let mut i: usize = 0;
-    while i < n {
-        out[1 + i] = configs.item(i);
-        i += 1;
-    }
-}
-
-// The count of the backers, then the backers.
-fn write_backers(out: &mut [u8], backers: Members)
-    requires { ⌜ 1 + 33 * length (view backers) ≤ length (now out) ⌝ }
-    ensures { λ r. ⌜ now (out .exit) ≡ sets (now (out .entry)) 0 (sectionBytes prefixBytes (view backers)) ⌝ }
-{
-    let n = backers.size();
-    out[0] = n as u8;
-    let mut i: usize = 0;
-    while i < n {
-        backers.item(i).0.write(out, 1 + 33 * i);
-        i += 1;
-    }
 }

@@ -15,9 +15,9 @@ use lib.Seq.{getD-set-same, getD-set-other}
 use Rattle.laws.specs.Count.{count}
 use Rattle.laws.proofs.Count.{count-same, count-more, count-none}
 use Rattle.laws.proofs.Tests.{and-left, and-right}
-use Rattle.codec.specs.declared.cursor.Cursor.{Cursor}
-use Rattle.codec.specs.Readers.{Read, times}
-use Rattle.registry_wire.specs.Attempts.{Signature, readSignature}
+use Rattle.codec_cursor.specs.declared.cursor.Cursor.{Cursor}
+use Rattle.codec_cursor.specs.Readers.{Read, times}
+use Rattle.registry_seals.specs.SignatureSections.{Signature, readSignature}
 use Rattle.registry_verification.specs.Receipts.{hasGood, receipts, marked}
 use Rattle.registry_verification.specs.declared.verification.Marks.{Marks}
 

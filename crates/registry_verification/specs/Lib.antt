@@ -1,3 +1,4 @@
 pub mod Receipts
+pub mod Sequence
 pub mod Updated
 pub mod Starred

@@ -1,13 +1,13 @@
 // Receipts of backers (docs/RULES.md, "Receipts"). Verifying a signature is the caller's; an attempt has the verdicts.
-use codec::cursor::Cursor;
+use codec_cursor::cursor::Cursor;
 use events::member_set::Members;
-use registry_wire::attempt::Counted;
-use registry_wire::signatures::read_signature;
+use registry_seals::signatures::Counted;
+use registry_seals::signatures::read_signature;
 ghost use mathlib.Core.Path.{_≡_};
 ghost use Prim.Native.Nat.{_≤_};
 ghost use lib.ListN.{length};
 ghost use Rattle.events.specs.Members.{view};
-ghost use Rattle.registry_wire.specs.Attempts.{signaturesIn};
+ghost use Rattle.registry_seals.specs.SignatureSections.{signaturesIn};
 ghost use Rattle.registry_verification.specs.Receipts.{receipts, marked};
 
 // A mark for each backer, 0 or 1, and how many are set: no signature is looked back at.

@@ -22,15 +22,16 @@ use Rattle.cesr.specs.declared.number.Sn.{Sn}
 use Rattle.cesr.specs.declared.primitive.Matter.{Matter}
 use Rattle.cesr.specs.declared.primitive.Said.{Said}
 use Rattle.cesr.proofs.Matters.{length-matter}
-use Rattle.codec.specs.Readers.{placed, Read, starting, readNumber, readIf, readIdentifier, readSaid}
+use Rattle.codec_cursor.specs.Readers.{placed, Read, starting, readNumber, readIf, readIdentifier, readSaid}
 use Rattle.codec.specs.Layout.{joined, sectionBytes, all, saidBytes, sealBytes, goodIdentifier, goodSn, goodSaid, goodSeal}
 use Rattle.codec.proofs.Stands.{Stands, stands-first, stands-rest, whole-stands}
 use Rattle.codec.proofs.Codes.{codes-sn, codes-said, codes-identifier}
-use Rattle.registry_state.proofs.StateLoops.{length-sn}
-use Rattle.registry_wire.specs.Attempts.{Anchor, anchorBytes, goodAnchor, chosen, chosenAnchors, sealSection, onlySeal, anchorSeals, anchorsIn, partOf, Holds}
+use Rattle.registry_bytes.proofs.StateWrites.{length-sn}
+use Rattle.registry_wire.specs.Attempts.{Anchor, anchorBytes, goodAnchor, chosenAnchors, anchorsIn, partOf, Holds}
+use Rattle.registry_seals.specs.SealSections.{chosen, sealSection, onlySeal, anchorSeals}
 use Rattle.registry_wire.specs.declared.attempt.Part.{Part}
 use Rattle.registry_wire.proofs.AttemptLaws.{anchor-some}
-use Rattle.registry_wire.proofs.OnlySeal.{only-seal}
+use Rattle.registry_seals.proofs.OnlySeal.{only-seal}
 
 pub seals-behind : (a : Anchor) → sealSection (anchorBytes a) ≡ sectionBytes sealBytes (a .seals)
 unfolding sealSection

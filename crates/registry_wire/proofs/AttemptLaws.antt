@@ -16,16 +16,17 @@ use Rattle.laws.specs.Number.{Bytes}
 use Rattle.laws.proofs.Tests.{and-left}
 use Rattle.cesr.specs.declared.primitive.Matter.{Matter}
 use Rattle.cesr.proofs.Matters.{length-matter}
-use Rattle.events.specs.TelEvents.{Event}
-use Rattle.codec.specs.declared.cursor.Cursor.{Cursor}
-use Rattle.codec.specs.Readers.{placed, Read, starting, need, readByte, readIdentifier, counted, times, countUpTo, section}
+use Rattle.events_tel.specs.TelEvents.{Event}
+use Rattle.codec_cursor.specs.declared.cursor.Cursor.{Cursor}
+use Rattle.codec_cursor.specs.Readers.{placed, Read, starting, need, readByte, readIdentifier, counted, times, countUpTo, section}
 use Rattle.codec.specs.Events.{readEvent}
 use Rattle.codec.specs.Layout.{joined}
 use Rattle.codec.proofs.Loops.{count-within}
 use Rattle.codec.proofs.Codes.{codes-after}
 use Rattle.codec.proofs.CodesList.{codes-times, codes-section}
 use Rattle.registry_state.specs.States.{readRegistry, viewRegistryRead}
-use Rattle.registry_wire.specs.Attempts.{Anchor, Decoded, anchorBytes, signatureBytes, goodAnchor, goodSignature, readSource, readAnchor, readAnchors, readSignature, readIssuer, readBackerAt, readEvidence, readMessage, decodeOf, anchorsIn, signaturesIn, evidenceAs, partOf, Holds, ReadAs, passedAnchors, passedSignatures}
+use Rattle.registry_wire.specs.Attempts.{Anchor, Decoded, anchorBytes, goodAnchor, readSource, readAnchor, readAnchors, readIssuer, readBackerAt, readEvidence, readMessage, decodeOf, anchorsIn, evidenceAs, partOf, Holds, ReadAs, passedAnchors}
+use Rattle.registry_seals.specs.SignatureSections.{signatureBytes, goodSignature, readSignature, signaturesIn, passedSignatures}
 use Rattle.registry_wire.specs.Attempts.Evidence.{missing, issuer, backer}
 use Rattle.registry_wire.specs.Attempts.Decoded.{malformed, decoded}
 use Rattle.registry_state.specs.declared.state.RegistryState.{RegistryState}
@@ -34,7 +35,7 @@ use Rattle.registry_wire.specs.declared.attempt.Source.{Source}
 use Rattle.registry_wire.specs.declared.attempt.Part.{Part}
 use Rattle.registry_wire.specs.declared.attempt.AnchorsRead.{AnchorsRead}
 use Rattle.registry_wire.specs.declared.attempt.EvidenceRead.{EvidenceRead}
-use Rattle.registry_wire.specs.declared.signatures.SignaturesRead.{SignaturesRead}
+use Rattle.registry_seals.specs.declared.signatures.SignaturesRead.{SignaturesRead}
 use Rattle.registry_wire.proofs.CodesAttempt.{codes-anchor, codes-signature, codes-evidence}
 
 -- a cursor that has not stopped is its place

@@ -14,10 +14,10 @@ use Rattle.cesr.specs.Primitives.{matterBytes}
 use Rattle.cesr.specs.declared.number.Sn.{Sn}
 use Rattle.cesr.specs.declared.primitive.Matter.{Matter}
 use Rattle.cesr.specs.declared.primitive.Said.{Said}
-use Rattle.events.specs.TelEvents.{Event}
+use Rattle.events_tel.specs.TelEvents.{Event}
 use Rattle.events.specs.declared.seal.Seal.{Seal}
-use Rattle.codec.specs.declared.cursor.Cursor.{Cursor}
-use Rattle.codec.specs.Readers.{placed, starting, both, after, readByte, readIdentifier}
+use Rattle.codec_cursor.specs.declared.cursor.Cursor.{Cursor}
+use Rattle.codec_cursor.specs.Readers.{placed, starting, both, after, readByte, readIdentifier}
 use Rattle.codec.specs.Events.{readSeal}
 use Rattle.codec.specs.Layout.{joined, sectionBytes, all, sealBytes, goodIdentifier, goodSeal, goodToad}
 use Rattle.codec.proofs.Stands.{Stands, stays}
@@ -28,7 +28,8 @@ use Rattle.codec.proofs.CodesEvent.{codes-event}
 use Rattle.codec.proofs.CodesPlain.{plain, plain-told}
 use Rattle.codec.proofs.CodesRound.{whole-sound, whole-complete}
 use Rattle.registry_state.specs.States.{registryBytes, readRegistry}
-use Rattle.registry_wire.specs.Attempts.{Anchor, Signature, Evidence, Message, sourceBytes, anchorBytes, signatureBytes, evidenceBytes, attemptBytes, goodSource, goodAnchor, goodAnchors, goodSignature, goodEvidence, goodMessage, sourceOf, readSource, readSeals, anchorOf, readAnchor, readAnchors, signatureOf, readSignature, issuerOf, readIssuer, readBackerAt, readEvidence, messageOf, readMessage, decodeOf}
+use Rattle.registry_wire.specs.Attempts.{Anchor, Evidence, Message, sourceBytes, anchorBytes, evidenceBytes, attemptBytes, goodSource, goodAnchor, goodAnchors, goodEvidence, goodMessage, sourceOf, readSource, readSeals, anchorOf, readAnchor, readAnchors, issuerOf, readIssuer, readBackerAt, readEvidence, messageOf, readMessage, decodeOf}
+use Rattle.registry_seals.specs.SignatureSections.{Signature, signatureBytes, goodSignature, signatureOf, readSignature}
 use Rattle.registry_wire.specs.Attempts.Evidence.{missing, issuer, backer, backerAt}
 use Rattle.registry_wire.specs.Attempts.Decoded.{malformed, decoded}
 use Rattle.registry_wire.specs.declared.attempt.Source.{Source}

@@ -1,4 +1,3 @@
 pub mod AttemptLaws
 pub mod AnchorLaws
 pub mod CodesAttempt
-pub mod OnlySeal

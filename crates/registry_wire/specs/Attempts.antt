@@ -1,37 +1,32 @@
 -- Attempts: their layout and limits (docs/RULES.md, "Bytes"), and how they are read.
-use Prim.Native.Nat.{ℕ, _-_, _^_}
+use Prim.Native.Nat.{ℕ, _-_}
 use mathlib.Core.Path.{_≡_}
 use mathlib.Core.List.{List, [], _∷_, _++_}
-use mathlib.Core.Bool.{Bool, true, false, cond, _&&_, _||_}
-use lib.Dec.{leb, ltb, eqb}
+use mathlib.Core.Bool.{Bool, true, cond, _&&_, _||_}
+use lib.Dec.{leb, eqb}
 use lib.ListN.{length, take, drop}
-use Rattle.laws.specs.Number.{digits}
-use Rattle.cesr.specs.Numbers.{value, snBytes}
-use Rattle.cesr.specs.Primitives.{matterBytes, eqMatter, eqSaid}
+use Rattle.cesr.specs.Numbers.{snBytes}
+use Rattle.cesr.specs.Primitives.{matterBytes}
 use Rattle.cesr.specs.declared.number.Sn.{Sn}
 use Rattle.cesr.specs.declared.primitive.Matter.{Matter}
 use Rattle.cesr.specs.declared.primitive.Said.{Said}
-use Rattle.events.specs.Identifiers.{matterOf}
-use Rattle.events.specs.TelEvents.{Event, viewEvent}
+use Rattle.events_tel.specs.TelEvents.{Event, viewEvent}
 use Rattle.events.specs.declared.seal.Seal.{Seal}
-use Rattle.events.specs.declared.seal.Seal.the-variants.{Digest, Root, Source as SourceSeal, Event as EventSeal, Last, Back, Kind, Opaque}
-use Rattle.codec.specs.declared.cursor.Cursor.{Cursor}
-use Rattle.codec.specs.Readers.{Read, Reader, placed, starting, need, readByte, readByteIf, readQuad, readNumber, readIdentifier, readSaid, mapped, both, after, counted, times, countUpTo, section}
+use Rattle.codec_cursor.specs.declared.cursor.Cursor.{Cursor}
+use Rattle.codec_cursor.specs.Readers.{Read, Reader, placed, starting, need, readByte, readNumber, readIdentifier, readSaid, mapped, both, after, countUpTo, section}
 use Rattle.codec.specs.Events.{readSeal, readEvent}
 use Rattle.codec.specs.Layout.{joined, sectionBytes, all, saidBytes, sealBytes, eventBytes, goodSaid, goodIdentifier, goodSn, goodSeal, goodEvent}
 use Rattle.registry_state.specs.States.{Registry, viewRegistry, registryBytes, goodRegistry, readRegistry}
 use Rattle.registry_state.specs.declared.state.RegistryState.{RegistryState}
+use Rattle.registry_seals.specs.SignatureSections.{Signature, signatureBytes, goodSignature, readSignature, signaturesIn}
 use Rattle.registry_wire.specs.declared.attempt.Source.{Source}
 use Rattle.registry_wire.specs.declared.attempt.Part.{Part}
-use Rattle.registry_wire.specs.declared.attempt.Counted.{Counted}
 use Rattle.registry_wire.specs.declared.attempt.DecodedAttempt.{DecodedAttempt}
 use Rattle.registry_wire.specs.declared.attempt.Attempt.{Attempt}
 use Rattle.registry_wire.specs.declared.attempt.SourceRead.{SourceRead}
 use Rattle.registry_wire.specs.declared.attempt.SourcesRead.{SourcesRead}
 use Rattle.registry_wire.specs.declared.attempt.AnchorsRead.{AnchorsRead}
 use Rattle.registry_wire.specs.declared.attempt.EvidenceRead.{EvidenceRead}
-use Rattle.registry_wire.specs.declared.signatures.SignatureRead.{SignatureRead}
-use Rattle.registry_wire.specs.declared.signatures.SignaturesRead.{SignaturesRead}
 
 -- an anchoring event
 pub record Anchor : Type 0 where
@@ -39,11 +34,6 @@ pub record Anchor : Type 0 where
   pub sn : Sn
   pub said : Said
   pub seals : List Seal
-
--- a signature's index, and its verdict: 0 failed, 1 good
-pub record Signature : Type 0 where
-  pub index : ℕ
-  pub verdict : ℕ
 
 -- what the caller knows about the issuer or the backers
 pub data Evidence : Type 0 where
@@ -66,9 +56,6 @@ sourceBytes x = snBytes (x .sn) ++ saidBytes (x .said)
 
 abbrev pub anchorBytes : Anchor → List ℕ
 anchorBytes x = matterBytes (x .prefix) ++ (snBytes (x .sn) ++ (saidBytes (x .said) ++ sectionBytes sealBytes (x .seals)))
-
-abbrev pub signatureBytes : Signature → List ℕ
-signatureBytes x = digits 4 (x .index) ++ (x .verdict ∷ [])
 
 abbrev pub evidenceBytes : Evidence → List ℕ
 evidenceBytes missing = 0 ∷ []
@@ -93,9 +80,6 @@ goodAnchor x =
 
 unfoldable pub goodAnchors : List Anchor → Bool
 goodAnchors l = leb (length l) 1 && all goodAnchor l
-
-unfoldable pub goodSignature : Signature → Bool
-goodSignature x = ltb (x .index) (2 ^ 32) && leb (x .verdict) 1
 
 abbrev pub goodEvidence : Evidence → Bool
 goodEvidence missing = true
@@ -127,12 +111,6 @@ readAnchor s c = mapped anchorOf (both readIdentifier (both readNumber (both rea
 
 unfoldable pub readAnchors : Reader (List Anchor)
 readAnchors s c = section 1 readAnchor s c
-
-abbrev pub signatureOf : ℕ × ℕ → Signature
-signatureOf t = record { index = t .0; verdict = t .1 }
-
-unfoldable pub readSignature : Reader Signature
-readSignature s c = mapped signatureOf (both readQuad (readByteIf (λ v. leb v 1))) s c
 
 abbrev pub issuerOf : Matter × List Anchor → Evidence
 issuerOf t = issuer (t .0) (t .1)
@@ -170,9 +148,6 @@ decodeOf s =
 unfoldable pub anchorsIn : List ℕ → Part → List Anchor
 anchorsIn s p = cond (eqb (p .from) (p .to)) [] (readAnchor s (placed (p .from)) .value ∷ [])
 
-unfoldable pub signaturesIn : List ℕ → Counted → List Signature
-signaturesIn s p = times (p .count) readSignature s (placed (p .from)) .value
-
 unfoldable pub sourcesIn : Attempt → List Source
 sourcesIn a = cond (eqb (a .sources) 0) [] (a .source ∷ [])
 
@@ -199,57 +174,16 @@ abbrev pub chosenAnchors : List Anchor → List Anchor → List Anchor
 chosenAnchors [] message = message
 chosenAnchors (x ∷ l) message = x ∷ l
 
--- the same of events in bytes
-unfoldable pub chosen : List ℕ → List ℕ → List ℕ
-chosen evidence message = cond (eqb (length evidence) 0) message evidence
-
--- what stands behind the prefix, sn and said of an anchoring event
-unfoldable pub sealSection : List ℕ → List ℕ
-sealSection event = drop 82 event
-
-unfoldable pub chosenSeals : List ℕ → List ℕ → List ℕ
-chosenSeals evidence message = sealSection (chosen evidence message)
-
--- whether a seal is the event seal with this i, s and d
-abbrev pub sealsEvent : Seal → Matter → Sn → Said → Bool
-sealsEvent Digest i s d = false
-sealsEvent Root i s d = false
-sealsEvent SourceSeal i s d = false
-sealsEvent (EventSeal j t e) i s d = eqMatter (matterOf j) i && (eqb (value t) (value s) && eqSaid e d)
-sealsEvent Last i s d = false
-sealsEvent Back i s d = false
-sealsEvent Kind i s d = false
-sealsEvent Opaque i s d = false
-
--- exactly one seal, and that one the wanted
-abbrev pub onlySeal : List Seal → Matter → Sn → Said → Bool
-onlySeal [] i s d = false
-onlySeal (x ∷ []) i s d = sealsEvent x i s d
-onlySeal (x ∷ (y ∷ l)) i s d = false
-
--- the same of a seal section in bytes
-unfoldable pub anchorSeals : List ℕ → Matter → Sn → Said → Bool
-anchorSeals b i s d =
-    let r = readSeal b (counted 1 b starting) in
-    (r .next .ok && eqb (r .next .at) (length b)) && sealsEvent (r .value) i s d
-
 -- what the structs of the code stand for
-abbrev pub viewSignature : SignatureRead → Read Signature
-viewSignature r = record { value = record { index = r .index; verdict = r .verdict }; next = r .next }
-
 abbrev pub viewSource : SourceRead → Read Source
 viewSource r = record { value = r .value; next = r .next }
 
 abbrev pub viewSources : SourcesRead → Read (List Source)
 viewSources r = record { value = cond (eqb (r .count) 0) [] (r .source ∷ []); next = r .next }
 
--- where a section's anchoring event or signatures stand, behind the count byte, and the cursor behind them
+-- where a section's anchoring event stands, behind the count byte, and the cursor behind them
 unfoldable pub passedAnchors : List ℕ → Cursor → AnchorsRead
 passedAnchors s c = record { value = record { from = countUpTo 1 s c .next .at; to = readAnchors s c .next .at }; next = readAnchors s c .next }
-
-unfoldable pub passedSignatures : List ℕ → Cursor → SignaturesRead
-passedSignatures s c =
-    record { value = record { from = countUpTo 64 s c .next .at; count = countUpTo 64 s c .value }; next = section 64 readSignature s c .next }
 
 -- the bytes of a part
 unfoldable pub partOf : List ℕ → Part → List ℕ

@@ -1,17 +1,18 @@
 // An attempt: an event, its source, the message's anchoring event, signatures and evidence.
-use crate::signatures::pass_signatures;
 use cesr::number::Sn;
 use cesr::primitive::Matter;
 use cesr::primitive::Said;
-use codec::cursor::Cursor;
 use codec::section::count_up_to;
 use codec::section::pass_seals;
+use codec_cursor::cursor::Cursor;
 use codec_tel::tel::read_event;
-use events::tel::TelEvent;
+use events_tel::tel::TelEvent;
+use registry_seals::signatures::Counted;
+use registry_seals::signatures::pass_signatures;
 use registry_state::state::RegistryState;
 ghost use mathlib.Core.Path.{_≡_};
 ghost use mathlib.Core.Bool.{true};
-ghost use Rattle.codec.specs.Readers.{section};
+ghost use Rattle.codec_cursor.specs.Readers.{section};
 ghost use Rattle.registry_wire.specs.Attempts.{readSource, readAnchor, readIssuer, readBackerAt, readEvidence, viewSource, viewSources, passedAnchors, partOf, Holds, ReadAs, viewDecoded, decodeOf};
 
 // The sn and the said of the anchoring event, as the attempt states them.
@@ -24,12 +25,6 @@ pub struct Source {
 pub struct Part {
     pub from: usize,
     pub to: usize,
-}
-
-// Elements in the attempt's bytes, one behind the other.
-pub struct Counted {
-    pub from: usize,
-    pub count: usize,
 }
 
 // Anchoring events and signatures stay in bytes.

@@ -1,5 +1,5 @@
 use borrow.Author.Needs.{needs}
-use Rattle.codec.specs.Readers.{countUpTo}
+use Rattle.codec_cursor.specs.Readers.{countUpTo}
 use Rattle.codec.proofs.section.count_up_to.Statement.{statement}
 use Rattle.codec.proofs.section.count_up_to.Tie as tie
 

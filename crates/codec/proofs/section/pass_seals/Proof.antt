@@ -3,7 +3,7 @@ use mathlib.Core.Path.{_≡_, refl, ap, _∙_}
 use native.Mathlib.Omega.{arith}
 use borrow.Author.Needs.{needs}
 use denote.Ref.{now}
-use Rattle.codec.specs.Readers.{times, section}
+use Rattle.codec_cursor.specs.Readers.{times, section}
 use Rattle.codec.specs.Events.{readSeal}
 use Rattle.codec.proofs.Loops.{times-next}
 use Rattle.codec.proofs.section.pass_seals.Statement.{statement}

@@ -4,8 +4,8 @@ use mathlib.Core.List.{List}
 use native.Mathlib.Omega.{arith}
 use borrow.Author.Needs.{needs}
 use denote.Ref.{now}
-use Rattle.events.specs.Configs.{viewConfigs, pushed}
-use Rattle.codec.specs.Readers.{Read, times, section}
+use Rattle.events_tel.specs.Configs.{viewConfigs, pushed}
+use Rattle.codec_cursor.specs.Readers.{Read, times, section}
 use Rattle.codec.specs.Events.{readConfig, readConfigs}
 use Rattle.codec.proofs.Loops.{count-within, times-pushed, configs-room}
 use Rattle.codec.proofs.section.read_configs.Statement.{statement}

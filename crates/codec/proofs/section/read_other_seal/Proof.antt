@@ -1,5 +1,5 @@
 use borrow.Author.Needs.{needs}
-use Rattle.codec.specs.Readers.{readByteIf}
+use Rattle.codec_cursor.specs.Readers.{readByteIf}
 use Rattle.codec.specs.Events.{readOtherSeal}
 use Rattle.codec.proofs.section.read_other_seal.Statement.{statement}
 use Rattle.codec.proofs.section.read_other_seal.Tie as tie

@@ -7,7 +7,7 @@ use denote.Ref.{now}
 use Rattle.cesr.specs.declared.primitive.BasicPrefix.{BasicPrefix}
 use Rattle.events.specs.Members.{view, pushed}
 use Rattle.events.proofs.Members.{pushed-room}
-use Rattle.codec.specs.Readers.{Read, readPrefix, times, section}
+use Rattle.codec_cursor.specs.Readers.{Read, readPrefix, times, section}
 use Rattle.codec.specs.Events.{readPrefixes}
 use Rattle.codec.proofs.Loops.{count-within, times-pushed}
 use Rattle.codec.proofs.section.read_prefixes.Statement.{statement}

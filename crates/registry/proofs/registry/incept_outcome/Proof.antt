@@ -1,7 +1,7 @@
 use denote.Ref.{now}
 use mathlib.Core.Path.{_≡_, sym, _∙_}
 use mathlib.Core.Bool.{true, false, false≢true}
-use Rattle.events.specs.declared.tel.Kind.the-variants.{Vcp}
+use Rattle.events_tel.specs.declared.tel.Kind.the-variants.{Vcp}
 use Rattle.registry_state.specs.States.{viewRegistry}
 use Rattle.registry_wire.specs.Attempts.{viewAttempt}
 use Rattle.registry_error.specs.Answers.{accepts}

@@ -5,7 +5,7 @@ use mathlib.Core.Bool.{false≢true}
 use Rattle.registry_wire.specs.Attempts.{viewAttempt}
 use Rattle.registry_error.specs.Answers.{accepts}
 use Rattle.registry.specs.RegistryFolds.{Outcome}
-use Rattle.registry.proofs.AnchorUse.{decoded-good, anchored-parts}
+use Rattle.registry_authentication.proofs.AnchorUse.{decoded-good, anchored-parts}
 use Rattle.registry.proofs.WellLaws.{Lettered, well-by-view}
 use Rattle.registry.proofs.RegistryLaws.{incept-lettered, incept-decoded, incept-malformed}
 use borrow.Author.Needs.{needs}

@@ -1,7 +1,7 @@
 use denote.Ref.{now}
 use native.Mathlib.Omega.{arith}
 use Rattle.laws.proofs.Tests.{and-left, and-right}
-use Rattle.registry.proofs.AnchorUse.{decoded-good, anchored-parts}
+use Rattle.registry_authentication.proofs.AnchorUse.{decoded-good, anchored-parts}
 use mathlib.Core.Path.{_≡_, sym, ap, subst, _∙_}
 use mathlib.Core.Bool.{true, false, false≢true}
 use borrow.Author.Tests.{leb-true}

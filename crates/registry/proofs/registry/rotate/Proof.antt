@@ -1,7 +1,7 @@
 use mathlib.Core.Path.{_≡_, refl, sym, ap, _∙_}
 use Rattle.events.specs.Members.{view}
-use Rattle.events.specs.declared.tel.Kind.{Kind}
-use Rattle.events.specs.TelEvents.{eventAs}
+use Rattle.events_tel.specs.declared.tel.Kind.{Kind}
+use Rattle.events_tel.specs.TelEvents.{eventAs}
 use Rattle.registry.specs.RegistryFolds.{ingestEvent, rotated}
 use denote.Ref.{now}
 use mathlib.Core.Bool.{true, false, false≢true}

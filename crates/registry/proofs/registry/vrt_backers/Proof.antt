@@ -8,7 +8,7 @@ use Rattle.registry.specs.RegistryFolds.{vrtBackers, thresholdFits}
 use denote.Ref.{now}
 use mathlib.Core.Path.{_≡_, _∙_}
 use mathlib.Core.Bool.{cond}
-use Rattle.registry_wire.specs.Attempts.{signaturesIn}
+use Rattle.registry_seals.specs.SignatureSections.{signaturesIn}
 use Rattle.registry_verification.specs.Updated.{updatedMembers}
 use Rattle.registry.proofs.RegistryLaws.{limit-chain, limit-list}
 use borrow.Author.Needs.{needs}

@@ -4,10 +4,6 @@ use Rattle.registry_error.specs.Answers.{firstOf}
 use borrow.Author.Needs.{needs}
 use Rattle.registry_authentication.proofs.backer.authenticate_backer.Statement.{statement}
 use Rattle.registry_authentication.proofs.backer.authenticate_backer.Tie as tie
-use Rattle.registry_authentication.proofs.backer.authority.Reads as authority-reads
-use Rattle.registry_authentication.proofs.backer.backed_by.Reads as backed-by-reads
-use Rattle.registry_authentication.proofs.backer.resolved.Reads as resolved-reads
-use Rattle.registry_error.proofs.answer.or_else.Reads as or-else-reads
 
 resolved-requires : tie.Need-resolved-requires
 resolved-requires c κs = search needs

@@ -1,5 +1,4 @@
 use Rattle.registry_authentication.proofs.EvidenceLaws.{own-authority}
-use borrow.Author.Tests.{ne-eqb}
 use Rattle.registry_wire.specs.Attempts.{evidenceAs}
 use Rattle.registry_authentication.proofs.backer.authority.Statement.{statement}
 use Rattle.registry_authentication.proofs.backer.authority.Tie as tie

@@ -3,13 +3,6 @@ use Rattle.registry_error.specs.Answers.{firstOf}
 use borrow.Author.Needs.{needs}
 use Rattle.registry_authentication.proofs.backer.backed_by.Statement.{statement}
 use Rattle.registry_authentication.proofs.backer.backed_by.Tie as tie
-use Rattle.events.proofs.member_set.MemberSet.check_members.Reads as check-members-reads
-use Rattle.events.proofs.member_set.Members.size.Reads as size-reads
-use Rattle.events.proofs.toad.Toad.is_exact.Reads as is-exact-reads
-use Rattle.registry_authentication.proofs.backer.enough_receipts.Reads as enough-receipts-reads
-use Rattle.registry_error.proofs.answer.accept_if.Reads as accept-if-reads
-use Rattle.registry_error.proofs.answer.backer_set.Reads as backer-set-reads
-use Rattle.registry_error.proofs.answer.or_else.Reads as or-else-reads
 
 check-members-requires : tie.Need-check-members-requires
 check-members-requires c κs = search needs

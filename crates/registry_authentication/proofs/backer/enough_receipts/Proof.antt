@@ -2,9 +2,6 @@ use Rattle.registry_authentication.specs.Backers.{enoughReceipts}
 use borrow.Author.Needs.{needs}
 use Rattle.registry_authentication.proofs.backer.enough_receipts.Statement.{statement}
 use Rattle.registry_authentication.proofs.backer.enough_receipts.Tie as tie
-use Rattle.events.proofs.toad.Toad.value.Reads as value-reads
-use Rattle.registry_error.proofs.answer.accept_if.Reads as accept-if-reads
-use Rattle.registry_verification.proofs.verification.valid_receipts.Reads as valid-receipts-reads
 
 valid-receipts-requires : tie.Need-valid-receipts-requires
 valid-receipts-requires c κs = search needs

@@ -1,8 +1,6 @@
 use borrow.Author.Needs.{needs}
 use Rattle.registry_authentication.proofs.backer.names_registry.Statement.{statement}
 use Rattle.registry_authentication.proofs.backer.names_registry.Tie as tie
-use Rattle.cesr.proofs.primitive.Matter.same.Reads as same-reads
-use Rattle.events.proofs.identifier.Identifier.matter.Reads as matter-reads
 
 enum-told : tie.Need-enum-told
 enum-told c = search needs

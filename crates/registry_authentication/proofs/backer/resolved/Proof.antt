@@ -1,11 +1,6 @@
 use borrow.Author.Needs.{needs}
 use Rattle.registry_authentication.proofs.backer.resolved.Statement.{statement}
 use Rattle.registry_authentication.proofs.backer.resolved.Tie as tie
-use Rattle.cesr.proofs.primitive.Matter.same.Reads as same-reads
-use Rattle.events.proofs.identifier.Identifier.matter.Reads as matter-reads
-use Rattle.registry_authentication.proofs.backer.resolved_by.Reads as resolved-by-reads
-use Rattle.registry_error.proofs.answer.accept_if.Reads as accept-if-reads
-use Rattle.registry_error.proofs.answer.or_else.Reads as or-else-reads
 
 enum-told : tie.Need-enum-told
 enum-told c = search needs

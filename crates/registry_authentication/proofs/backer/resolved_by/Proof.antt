@@ -3,9 +3,6 @@ use Rattle.registry_wire.specs.Attempts.{evidenceAs}
 use borrow.Author.Needs.{needs}
 use Rattle.registry_authentication.proofs.backer.resolved_by.Statement.{statement}
 use Rattle.registry_authentication.proofs.backer.resolved_by.Tie as tie
-use Rattle.registry_authentication.proofs.backer.same_registry.Reads as same-registry-reads
-use Rattle.registry_authentication.proofs.backer.stands_at.Reads as stands-at-reads
-use Rattle.registry_error.proofs.answer.accept_if.Reads as accept-if-reads
 
 returns : tie.Need-returns
 unfolding evidenceAs

@@ -2,9 +2,6 @@ use Rattle.registry_authentication.specs.Backers.{sameRegistry}
 use borrow.Author.Needs.{needs}
 use Rattle.registry_authentication.proofs.backer.same_registry.Statement.{statement}
 use Rattle.registry_authentication.proofs.backer.same_registry.Tie as tie
-use Rattle.cesr.proofs.primitive.Matter.same.Reads as primitive-Matter-same-reads
-use Rattle.cesr.proofs.primitive.Said.same.Reads as primitive-Said-same-reads
-use Rattle.events.proofs.config.Configs.same.Reads as config-Configs-same-reads
 
 same-requires : tie.Need-same-requires
 same-requires c κs = search needs

@@ -2,8 +2,6 @@ use Rattle.registry_authentication.specs.Backers.{standsAt}
 use borrow.Author.Needs.{needs}
 use Rattle.registry_authentication.proofs.backer.stands_at.Statement.{statement}
 use Rattle.registry_authentication.proofs.backer.stands_at.Tie as tie
-use Rattle.cesr.proofs.number.Sn.same.Reads as number-Sn-same-reads
-use Rattle.cesr.proofs.primitive.Said.same.Reads as primitive-Said-same-reads
 
 same-requires : tie.Need-same-requires
 same-requires c κs = search needs

@@ -1,10 +1,8 @@
 use Rattle.registry_authentication.proofs.EvidenceLaws.{no-issuer}
-use borrow.Author.Tests.{ne-eqb}
 use Rattle.registry_wire.specs.Attempts.{evidenceAs}
 use borrow.Author.Needs.{needs}
 use Rattle.registry_authentication.proofs.issuer.names_issuer.Statement.{statement}
 use Rattle.registry_authentication.proofs.issuer.names_issuer.Tie as tie
-use Rattle.cesr.proofs.primitive.Matter.same.Reads as same-reads
 
 returns : tie.Need-returns
 returns c b d g = no-issuer b _ _ d g _ (c .if1 .taken)

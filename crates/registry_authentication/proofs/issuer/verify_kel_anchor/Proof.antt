@@ -1,18 +1,10 @@
 use denote.Ref.{now}
 use borrow.Author.Tests.{ne-eqb}
 use lib.ListN.{length}
-use Rattle.registry_wire.specs.Attempts.{chosenSeals}
+use Rattle.registry_seals.specs.SealSections.{chosenSeals}
 use borrow.Author.Needs.{needs}
 use Rattle.registry_authentication.proofs.issuer.verify_kel_anchor.Statement.{statement}
 use Rattle.registry_authentication.proofs.issuer.verify_kel_anchor.Tie as tie
-use Rattle.cesr.proofs.number.Sn.read.Reads as number-Sn-read-reads
-use Rattle.cesr.proofs.number.Sn.same.Reads as number-Sn-same-reads
-use Rattle.cesr.proofs.primitive.Matter.read.Reads as primitive-Matter-read-reads
-use Rattle.cesr.proofs.primitive.Matter.same.Reads as primitive-Matter-same-reads
-use Rattle.registry_error.proofs.answer.accept_if.Reads as accept-if-reads
-use Rattle.registry_wire.proofs.seals.anchor_seals.Reads as anchor-seals-reads
-use Rattle.registry_wire.proofs.seals.chosen.Reads as chosen-reads
-use Rattle.registry_wire.proofs.seals.chosen_seals.Reads as chosen-seals-reads
 
 chosen-requires : tie.Need-chosen-requires
 chosen-requires c κs = search needs

@@ -3,8 +3,8 @@ use mathlib.Core.Bool.{Bool, true, false}
 use lib.Dec.{eqb}
 use borrow.Author.Needs.{needs}
 use borrow.Author.Tests.{eq-eqb, ne-eqb}
-use Rattle.registry_state.specs.States.{viewStatus}
-use Rattle.registry_state.specs.declared.state.StatusInput.{StatusInput}
+use Rattle.registry_status.specs.Statuses.{viewStatus}
+use Rattle.registry_status.specs.declared.status.StatusInput.{StatusInput}
 use Rattle.registry_error.specs.declared.error.CredentialError.the-variants.{MissingRegistryReference}
 use Rattle.registry_credential.specs.declared.credential.StatusOutcome.the-variants.{Rejected}
 use Rattle.registry_credential.specs.Status.{judged, binding}

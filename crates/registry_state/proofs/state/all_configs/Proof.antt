@@ -6,7 +6,7 @@ use borrow.Author.Count.{below-more}
 use borrow.Author.Needs.{needs}
 use borrow.Author.Tests.{not-true, not-false}
 use lib.ListN.{getD}
-use Rattle.events.specs.Configs.{viewConfigs}
+use Rattle.events_tel.specs.Configs.{viewConfigs}
 use Rattle.codec.specs.Events.{isConfig}
 use Rattle.registry_state.proofs.StateLoops.{all-pass, all-fail}
 use Rattle.registry_state.proofs.state.all_configs.Statement.{statement}

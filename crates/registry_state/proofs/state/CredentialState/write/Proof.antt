@@ -1,39 +1,18 @@
-use Prim.Native.Nat.{_+_}
-use mathlib.Core.Path.{sym, _∙_}
 use borrow.Author.Needs.{needs}
-use borrow.Author.Tests.{leb-true, not-true, not-false}
-use denote.Ref.{now}
-use lib.ListN.{length}
-use Rattle.laws.proofs.Room.{stored, refused}
-use Rattle.registry_state.specs.States.{credentialBytes}
-use Rattle.registry_state.proofs.StateLoops.{length-credential, credential-head}
+use Rattle.registry_state.proofs.StateLoops.{credential-head}
 use Rattle.registry_state.proofs.state.CredentialState.write.Statement.{statement}
 use Rattle.registry_state.proofs.state.CredentialState.write.Tie as tie
 
-has-room-requires : tie.Need-has-room-requires
-has-room-requires c κs = search needs
-
-returns : tie.Need-returns
-returns c =
-    let a = c .before .before .before .args in
-    refused (now (a .out)) (a .at) 115 (credentialBytes (a .self)) (length-credential (a .self)) (sym (c .before .has-room .ensures) ∙ not-true _ (c .if1 .taken))
-
-write-head-requires : tie.Need-write-head-requires
-write-head-requires c κs =
-    let b1 = c .before in
-    let a = b1 .before .before .before .args in
-    leb-true (a .at + 115) (length (now (a .out))) (sym (b1 .before .has-room .ensures) ∙ not-false _ (b1 .if1 .left))
+write-credential-requires : tie.Need-write-credential-requires
+write-credential-requires c κs = search needs
 
 same-length : tie.Need-same-length
 same-length c = search needs
 
-returns-2 : tie.Need-returns-2
-returns-2 c =
-    let b2 = c .before .before in
-    let b4 = b2 .before .before in
-    let a = b4 .before .before .before .args in
-    stored (now (a .out)) (a .at) 115 (credentialBytes (a .self)) _ (length-credential (a .self)) (sym (b4 .before .has-room .ensures) ∙ not-false _ (b4 .if1 .left)) (b2 .write-head .ensures ∙ rw (credential-head (a .self)))
+returns : tie.Need-returns
+returns c =
+    let b = c .before .before in
+    rw (credential-head (b .before .before .before .args .self)) (b .write-credential .ensures)
 
 pub write-spec : {M : Type 1} → statement M
-write-spec =
-    tie.close (tie.spec has-room-requires returns write-head-requires same-length returns-2)
+write-spec = tie.close (tie.spec write-credential-requires same-length returns)

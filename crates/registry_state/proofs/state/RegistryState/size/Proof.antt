@@ -1,39 +1,14 @@
-use Prim.Native.Nat.{_≤_}
-use mathlib.Core.Path.{_≡_}
-use native.Mathlib.Omega.{arith}
 use borrow.Author.Needs.{needs}
-use lib.ListN.{length}
-use Rattle.events.specs.Configs.{viewConfigs}
-use Rattle.events.proofs.Configs.{view-size}
 use Rattle.registry_state.specs.States.{viewRegistry}
 use Rattle.registry_state.proofs.StateLoops.{length-registry}
 use Rattle.registry_state.proofs.state.RegistryState.size.Statement.{statement}
 use Rattle.registry_state.proofs.state.RegistryState.size.Tie as tie
 
-full : (c : tie.Start) → length (c .args .self .configs .codes) ≡ 8
-full c = search needs
-
-few : (c : tie.Start) → length (viewConfigs (c .args .self .configs)) ≤ 8
-few c = omega (arith, view-size (c .args .self .configs) (full c))
-
-size-requires : tie.Need-size-requires
-size-requires c κs = search needs
-
-add-result : tie.Need-add-result
-add-result c = omega (arith, few (c .before))
-
-size-requires-2 : tie.Need-size-requires-2
-size-requires-2 c κs = search needs
-
-mul-result : tie.Need-mul-result
-mul-result c = search needs
-
-add-result-2 : tie.Need-add-result-2
-add-result-2 c = omega (arith, few (c .before .before))
+state-size-requires : tie.Need-state-size-requires
+state-size-requires c κs = search needs
 
 returns : tie.Need-returns
-returns c = omega (arith, length-registry (viewRegistry (c .before .before .args .self)))
+returns c = rw (length-registry (viewRegistry (c .before .args .self))) (c .state-size .ensures)
 
 pub size-spec : {M : Type 1} → statement M
-size-spec =
-    tie.close (tie.spec size-requires add-result size-requires-2 mul-result add-result-2 returns)
+size-spec = tie.close (tie.spec state-size-requires returns)

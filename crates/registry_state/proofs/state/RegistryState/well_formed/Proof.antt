@@ -1,5 +1,5 @@
 use borrow.Author.Needs.{needs}
-use Rattle.codec.specs.Readers.{isIdentifier}
+use Rattle.codec_cursor.specs.Readers.{isIdentifier}
 use Rattle.registry_state.specs.States.{wellRegistry}
 use Rattle.registry_state.proofs.state.RegistryState.well_formed.Statement.{statement}
 use Rattle.registry_state.proofs.state.RegistryState.well_formed.Tie as tie

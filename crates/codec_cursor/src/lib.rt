@@ -1,0 +1,2 @@
+// A cursor over lent bytes, by which the layouts are read (docs/RULES.md, "Bytes").
+pub mod cursor;

@@ -1,0 +1,63 @@
+-- The six events, each with what it carries (docs/RULES.md, "Event kinds").
+use Prim.Native.Nat.{ℕ}
+use mathlib.Core.List.{List}
+use Rattle.cesr.specs.declared.number.Sn.{Sn}
+use Rattle.cesr.specs.declared.primitive.Matter.{Matter}
+use Rattle.cesr.specs.declared.primitive.Said.{Said}
+use Rattle.cesr.specs.declared.primitive.BasicPrefix.{BasicPrefix}
+use Rattle.events_tel.specs.Configs.{viewConfigs}
+use Rattle.events.specs.Members.{view}
+use Rattle.events.specs.declared.seal.Seal.{Seal}
+use Rattle.events_tel.specs.declared.tel.Kind.{Kind}
+use Rattle.events_tel.specs.declared.tel.Kind.the-variants.{Vcp, Vrt, Iss, Rev, Bis, Brv}
+use Rattle.events_tel.specs.declared.tel.TelEvent.{TelEvent}
+
+-- the number of a kind
+abbrev pub kindNumber : Kind → ℕ
+kindNumber Vcp = 1
+kindNumber Vrt = 2
+kindNumber Iss = 3
+kindNumber Rev = 4
+kindNumber Bis = 5
+kindNumber Brv = 6
+
+abbrev pub snZero : Sn
+snZero = record { hi = 0; lo = 0 }
+
+abbrev pub snOne : Sn
+snOne = record { hi = 0; lo = 1 }
+
+-- vcp, iss and bis have sn 0, rev and brv sn 1; a vrt carries its own
+abbrev pub snOfKind : Kind → Sn → Sn
+snOfKind Vcp own = snZero
+snOfKind Vrt own = own
+snOfKind Iss own = snZero
+snOfKind Rev own = snOne
+snOfKind Bis own = snZero
+snOfKind Brv own = snOne
+
+pub data Event : Type 0 where
+  -- said, issuer, toad, config bytes, backers
+  vcp : Said → Matter → ℕ → List ℕ → List BasicPrefix → Event
+  -- said, registry, prior, sn, toad, cuts, additions
+  vrt : Said → Said → Said → Sn → ℕ → List BasicPrefix → List BasicPrefix → Event
+  -- said, credential, registry
+  iss : Said → Said → Said → Event
+  -- said, credential, registry, prior
+  rev : Said → Said → Said → Said → Event
+  -- said, credential, registry, the event's own seal
+  bis : Said → Said → Said → Seal → Event
+  -- said, credential, prior, the event's own seal
+  brv : Said → Said → Said → Seal → Event
+
+-- what a struct of a kind stands for
+abbrev pub eventAs : Kind → TelEvent → Event
+eventAs Vcp e = vcp (e .said) (e .issuer) (e .toad .0) (viewConfigs (e .configs)) (view (e .backers))
+eventAs Vrt e = vrt (e .said) (e .registry) (e .prior) (e .sn) (e .toad .0) (view (e .backers)) (view (e .additions))
+eventAs Iss e = iss (e .said) (e .credential) (e .registry)
+eventAs Rev e = rev (e .said) (e .credential) (e .registry) (e .prior)
+eventAs Bis e = bis (e .said) (e .credential) (e .registry) (e .seal)
+eventAs Brv e = brv (e .said) (e .credential) (e .prior) (e .seal)
+
+abbrev pub viewEvent : TelEvent → Event
+viewEvent e = eventAs (e .kind) e

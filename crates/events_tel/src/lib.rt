@@ -1,0 +1,3 @@
+// Configuration traits, and the events of a registry and its credentials.
+pub mod config;
+pub mod tel;

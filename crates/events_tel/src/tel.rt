@@ -1,0 +1,69 @@
+// The six events of a registry and its credentials (docs/RULES.md, "Event kinds").
+use crate::config::Configs;
+use cesr::number::Sn;
+use cesr::primitive::Matter;
+use cesr::primitive::Said;
+use events::member_set::Members;
+use events::seal::Seal;
+use events::toad::Toad;
+ghost use mathlib.Core.Path.{_≡_};
+ghost use Rattle.events_tel.specs.TelEvents.{kindNumber, snOfKind};
+
+pub enum Kind {
+    Vcp,
+    Vrt,
+    Iss,
+    Rev,
+    Bis,
+    Brv,
+}
+
+// An event of any kind, flat, since an enum can't hold arrays: a field that the kind has no use for is blank.
+pub struct TelEvent {
+    pub kind: Kind,
+    pub said: Said,
+    // A vcp's issuer, an identifier.
+    pub issuer: Matter,
+    pub registry: Said,
+    pub credential: Said,
+    pub prior: Said,
+    // A vrt's own sequence number.
+    pub sn: Sn,
+    pub toad: Toad,
+    pub configs: Configs,
+    // A vcp's backers, or a vrt's cuts.
+    pub backers: Members,
+    pub additions: Members,
+    // The seal that a bis or brv carries itself.
+    pub seal: Seal,
+}
+
+impl Kind {
+    // The byte that stands for the kind.
+    pub fn number(self) -> u8
+        ensures { λ r. ⌜ r ≡ kindNumber self ⌝ }
+    {
+        match self {
+            Kind::Vcp => 1,
+            Kind::Vrt => 2,
+            Kind::Iss => 3,
+            Kind::Rev => 4,
+            Kind::Bis => 5,
+            Kind::Brv => 6,
+        }
+    }
+
+    // The sequence number of an event of this kind: a vrt has its own, a revocation 1, any other 0.
+    pub fn sn(self, own: Sn) -> Sn
+        ensures { λ r. ⌜ r ≡ snOfKind self own ⌝ }
+    {
+        match self {
+            Kind::Vcp => Sn { hi: 0, lo: 0 },
+            Kind::Vrt => own,
+            Kind::Iss => Sn { hi: 0, lo: 0 },
+            Kind::Rev => Sn { hi: 0, lo: 1 },
+            Kind::Bis => Sn { hi: 0, lo: 0 },
+            Kind::Brv => Sn { hi: 0, lo: 1 },
+        }
+    }
+}

@@ -1,0 +1,70 @@
+use denote.Ref.{now}
+use Rattle.registry_wire.specs.Attempts.{sourcesIn}
+use Rattle.registry_error.specs.Answers.{firstOf}
+use Rattle.registry_authentication.specs.Issuers.{authenticateIn}
+use borrow.Author.Needs.{needs}
+use Rattle.registry_authentication.proofs.issuer.authenticate_issuer.Statement.{statement}
+use Rattle.registry_authentication.proofs.issuer.authenticate_issuer.Tie as tie
+
+issuer-kind-requires : tie.Need-issuer-kind-requires
+issuer-kind-requires c κs = search needs
+
+names-issuer-requires : tie.Need-names-issuer-requires
+names-issuer-requires c κs = search needs
+
+accept-if-requires : tie.Need-accept-if-requires
+accept-if-requires c κs = search needs
+
+bytes-requires : tie.Need-bytes-requires
+bytes-requires c κs = search needs
+
+bytes-requires-2 : tie.Need-bytes-requires-2
+bytes-requires-2 c κs = search needs
+
+verify-kel-anchor-requires : tie.Need-verify-kel-anchor-requires
+verify-kel-anchor-requires c κs = search needs
+
+or-else-requires : tie.Need-or-else-requires
+or-else-requires c κs = search needs
+
+or-else-requires-2 : tie.Need-or-else-requires-2
+or-else-requires-2 c κs = search needs
+
+or-else-requires-3 : tie.Need-or-else-requires-3
+or-else-requires-3 c κs = search needs
+
+returns : tie.Need-returns
+unfolding sourcesIn authenticateIn firstOf
+returns c =
+    let b3 = c .before .before .before in
+    let b5 = b3 .before .before in
+    let b8 = b5 .before .before .before in
+    let z = b8 .before .before .args in
+    let a = z .a in
+    let s = now (z .s) in
+    rw (
+      c .or-else3 .ensures,
+      c .before .or-else2 .ensures,
+      c .before .before .or-else .ensures,
+      b3 .verify-kel-anchor .ensures,
+      b3 .before .bytes2 .ensures,
+      b5 .bytes .ensures,
+      b5 .before .accept-if .ensures,
+      b5 .before .before .names-issuer .ensures s (a .carried) (a .management),
+      b8 .issuer-kind .ensures s (a .issuer) (a .carried) (a .management),
+    )
+
+pub authenticate-issuer-spec : {M : Type 1} → statement M
+authenticate-issuer-spec =
+    tie.close
+    (tie.spec
+    issuer-kind-requires
+    names-issuer-requires
+    accept-if-requires
+    bytes-requires
+    bytes-requires-2
+    verify-kel-anchor-requires
+    or-else-requires
+    or-else-requires-2
+    or-else-requires-3
+    returns)

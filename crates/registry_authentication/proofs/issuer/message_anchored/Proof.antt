@@ -1,0 +1,27 @@
+use denote.Ref.{now}
+use mathlib.Core.Path.{refl}
+use Rattle.registry_wire.specs.Attempts.{sourcesIn, partOf}
+use Rattle.registry_authentication.proofs.AnchorUse.{none-chosen}
+use borrow.Author.Needs.{needs}
+use Rattle.registry_authentication.proofs.issuer.message_anchored.Statement.{statement}
+use Rattle.registry_authentication.proofs.issuer.message_anchored.Tie as tie
+
+bytes-requires : tie.Need-bytes-requires
+bytes-requires c κs = search needs
+
+bytes-requires-2 : tie.Need-bytes-requires-2
+bytes-requires-2 c κs = search needs
+
+verify-kel-anchor-requires : tie.Need-verify-kel-anchor-requires
+verify-kel-anchor-requires c κs = search needs
+
+returns : tie.Need-returns
+unfolding sourcesIn
+returns c =
+    let b1 = c .before in
+    let z = b1 .before .before .before .args in
+    rw (c .verify-kel-anchor .ensures, b1 .bytes2 .ensures, b1 .before .bytes .ensures, none-chosen (now (z .s)) _ (partOf (now (z .s)) (z .a .anchor)) refl)
+
+pub message-anchored-spec : {M : Type 1} → statement M
+message-anchored-spec =
+    tie.close (tie.spec bytes-requires bytes-requires-2 verify-kel-anchor-requires returns)

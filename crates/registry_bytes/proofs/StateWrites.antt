@@ -1,0 +1,125 @@
+-- Laws of the bytes of states.
+--     length-head, length-rest, length-state     how many bytes there are
+--     config-step, backer-step   how a loop writes a section, an element a turn
+--     part-stored            a run stored at the start of a lent part is that run stored in the whole
+--     head-sets, rest-sets, state-sets   the parts of a state, one behind the other
+use Prim.Native.Nat.{ℕ, suc, _+_, _-_, _*_, _<_, _≤_}
+use mathlib.Core.Path.{_≡_, refl, ap, sym, _∙_}
+use mathlib.Core.List.{List, [], _∷_, _++_, append-assoc, append-nil}
+use native.Mathlib.Nat.{add-assoc, add-suc, add-zero, le-add-right, mul-zero, mul-suc}
+use native.Mathlib.Omega.{arith}
+use lib.ListN.{length, getD, take, drop, set, length-append, length-drop, take-append-drop, drop-of-length-le}
+use lib.Seq.{sets, length-sets, length-take-le, take-all, take-set-le, drop-set-add}
+use borrow.Rule.Slice.PartMut.{putMid, midOf}
+use Rattle.laws.specs.Number.{digits}
+use Rattle.laws.specs.Room.{put}
+use Rattle.laws.proofs.Number.{length-digits}
+use Rattle.laws.proofs.Room.{put-sets, sets-append}
+use Rattle.laws.proofs.Views.{take-step}
+use Rattle.cesr.specs.declared.number.Sn.{Sn}
+use Rattle.cesr.specs.declared.primitive.Matter.{Matter}
+use Rattle.cesr.specs.declared.primitive.BasicPrefix.{BasicPrefix}
+use Rattle.cesr.specs.Numbers.{value, snBytes}
+use Rattle.cesr.specs.Primitives.{matterBytes}
+use Rattle.cesr.proofs.Matters.{length-matter}
+use Rattle.events.specs.Members.{noPrefix, at}
+use Rattle.codec.specs.Layout.{joined, sectionBytes, byteBytes, prefixBytes}
+use Rattle.codec.proofs.CodesList.{joined-snoc}
+use Rattle.registry_bytes.specs.StateBytes.{headBytes, restBytes, stateBytes}
+
+module _ {A : Type 0} (f : A → List ℕ) (k : ℕ) (each : (x : A) → length (f x) ≡ k) where
+  length-joined : (l : List A) → length (joined f l) ≡ k * length l
+  unfolding joined
+  length-joined [] = sym (mul-zero k)
+  length-joined (x ∷ l) = rw (length-append, each x, length-joined l, mul-suc k (length l)) (omega arith)
+
+  length-section : (l : List A) → length (sectionBytes f l) ≡ 1 + k * length l
+  unfolding sectionBytes
+  length-section l = rw (length-joined l) (omega arith)
+
+  joined-step : (l : List A) (i : ℕ) (d : A) → i < length l → joined f (take (i + 1) l) ≡ joined f (take i l) ++ f (getD l i d)
+  joined-step l i d h = rw (take-step l i d h) (joined-snoc f (take i l) (getD l i d))
+
+  section-step : (b : List ℕ) (l : List A) (i : ℕ) (d : A) → i < length l → sets (sets b 1 (joined f (take i l))) (1 + k * i) (f (getD l i d)) ≡ sets b 1 (joined f (take (i + 1) l))
+  section-step b l i d h =
+      rw
+      (joined-step l i d h, sets-append b 1 (joined f (take i l)) (f (getD l i d)), length-joined (take i l), length-take-le i l (omega arith))
+
+pub length-sn : (n : Sn) → length (snBytes n) ≡ 16
+unfolding snBytes
+length-sn n = length-digits 16 (value n)
+
+pub length-head : (a b : Matter) (n : Sn) (d : Matter) → length (headBytes a b n d) ≡ 115
+unfolding headBytes
+length-head a b n d = simp (length-append, length-matter, length-sn)
+
+pub length-configs : (l : List ℕ) → length (sectionBytes byteBytes l) ≡ 1 + length l
+length-configs l = length-section byteBytes 1 (λ x. refl) l ∙ omega arith
+
+pub length-backers : (l : List BasicPrefix) → length (sectionBytes prefixBytes l) ≡ 1 + 33 * length l
+length-backers l = length-section prefixBytes 33 (λ p. length-matter (p .0)) l
+
+pub length-rest : (toad : ℕ) (configs : List ℕ) (backers : List BasicPrefix) → length (restBytes toad configs backers) ≡ 6 + length configs + 33 * length backers
+unfolding restBytes
+length-rest toad configs backers = rw (length-append, length-append, length-digits, length-configs, length-backers) (omega arith)
+
+pub length-state : (a b : Matter) (n : Sn) (d : Matter) (toad : ℕ) (configs : List ℕ) (backers : List BasicPrefix) → length (stateBytes a b n d toad configs backers) ≡ 121 + length configs + 33 * length backers
+unfolding stateBytes
+length-state a b n d toad configs backers = rw (length-append, length-head, length-rest) (omega arith)
+
+-- a config byte more, and a backer more
+pub config-step : (b l : List ℕ) (i : ℕ) → i < length l → set (sets b 1 (joined byteBytes (take i l))) (1 + i) (getD l i 0) ≡ sets b 1 (joined byteBytes (take (i + 1) l))
+config-step b l i h = let e : 1 + i ≡ 1 + 1 * i = omega arith in rw e (section-step byteBytes 1 (λ x. refl) b l i 0 h)
+
+pub backer-step : (b : List ℕ) (l : List BasicPrefix) (i : ℕ) → i < length l → 1 + 33 * length l ≤ length b → put (sets b 1 (joined prefixBytes (take i l))) (1 + 33 * i) (prefixBytes (at l i)) ≡ sets b 1 (joined prefixBytes (take (i + 1) l))
+backer-step b l i h k =
+    put-sets (sets b 1 (joined prefixBytes (take i l))) (1 + 33 * i) 33 (prefixBytes (at l i)) (length-matter (at l i .0)) (rw length-sets (omega arith))
+    ∙ section-step prefixBytes 33 (λ p. length-matter (p .0)) b l i noPrefix h
+
+-- what is stored into a lent part is stored in the whole
+part-run : (a i : ℕ) (vs l : List ℕ) → take a l ++ sets (drop a l) i vs ≡ sets l (a + i) vs
+part-run a i [] l = take-append-drop a l
+part-run a i (v ∷ vs) l =
+    let m = set l (a + i) v in
+    ap (λ (r : List ℕ). r ++ sets (set (drop a l) i v) (suc i) vs) (sym (take-set-le a l (a + i) v (le-add-right a i)))
+    ∙ ap (λ (r : List ℕ). take a m ++ sets r (suc i) vs) (sym (drop-set-add a l i v))
+    ∙ part-run a (suc i) vs m
+    ∙ ap (λ (k : ℕ). sets m k vs) (add-suc a i)
+
+part-sets : (a : ℕ) (l vs : List ℕ) → a ≤ length l → putMid a (length l - a) l (sets (midOf a (length l - a) l) 0 vs) ≡ sets l a vs
+part-sets a l vs h =
+    let k = length l - a in
+    let n : length (drop a l) ≤ k = rw length-drop (omega arith) in
+    let e : drop k (drop a l) ≡ [] = drop-of-length-le (drop a l) {i = k} n in
+    let f : take k (drop a l) ≡ drop a l = take-all k (drop a l) n in
+    rw (e, append-nil, f, part-run a 0 vs l, add-zero)
+
+pub part-stored : (a : ℕ) (l m vs : List ℕ) → a ≤ length l → m ≡ sets (midOf a (length l - a) l) 0 vs → putMid a (length l - a) l m ≡ sets l a vs
+part-stored a l m vs h e = ap (putMid a (length l - a) l) e ∙ part-sets a l vs h
+
+-- one more run behind a run that was stored
+stored-more : (l : List ℕ) (at n m : ℕ) (vs ws : List ℕ) → length vs ≡ n → length ws ≡ m → at + n + m ≤ length l → put (sets l at vs) (at + n) ws ≡ sets l at (vs ++ ws)
+stored-more l at n m vs ws e f h = put-sets (sets l at vs) (at + n) m ws f (rw length-sets h) ∙ sym (rw (sets-append, e))
+
+pub head-sets : (l : List ℕ) (at : ℕ) (a b : Matter) (n : Sn) (d : Matter) → at + 115 ≤ length l → put (put (put (put l at (matterBytes a)) (at + 33) (matterBytes b)) (at + 66) (snBytes n)) (at + 82) (matterBytes d) ≡ sets l at (headBytes a b n d)
+unfolding headBytes
+head-sets l at a b n d h =
+    let x = matterBytes a in
+    let y = matterBytes b in
+    let z = snBytes n in
+    let w = matterBytes d in
+    let two : length (x ++ y) ≡ 66 = rw (length-append, length-matter, length-matter) in
+    let three : length ((x ++ y) ++ z) ≡ 82 = rw (length-append, two, length-sn) in
+    let p : put l at x ≡ sets l at x = put-sets l at 33 x (length-matter a) (omega arith) in
+    rw (p, stored-more l at 33 33 x y (length-matter a) (length-matter b) (omega arith), stored-more l at 66 16 (x ++ y) z two (length-sn n) (omega arith), stored-more l at 82 33 ((x ++ y) ++ z) w three (length-matter d) (omega arith))
+    (simp append-assoc)
+
+pub rest-sets : (l : List ℕ) (at toad : ℕ) (configs : List ℕ) (backers : List BasicPrefix) → at + 4 ≤ length l → sets (sets (put l at (digits 4 toad)) (at + 4) (sectionBytes byteBytes configs)) (at + 4 + 1 + length configs) (sectionBytes prefixBytes backers) ≡ sets l at (restBytes toad configs backers)
+unfolding restBytes
+rest-sets l at toad configs backers h =
+    let p : put l at (digits 4 toad) ≡ sets l at (digits 4 toad) = put-sets l at 4 (digits 4 toad) (length-digits 4 toad) h in
+    rw (p, sets-append, length-digits, sets-append, length-configs, add-assoc (at + 4) 1 (length configs))
+
+pub state-sets : (l : List ℕ) (at : ℕ) (a b : Matter) (n : Sn) (d : Matter) (toad : ℕ) (configs : List ℕ) (backers : List BasicPrefix) → sets (sets l at (headBytes a b n d)) (at + 115) (restBytes toad configs backers) ≡ sets l at (stateBytes a b n d toad configs backers)
+unfolding stateBytes
+state-sets l at a b n d toad configs backers = rw (sets-append, length-head)

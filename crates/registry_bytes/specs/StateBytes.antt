@@ -1,0 +1,22 @@
+-- The bytes of states, in the parts that they are written in. (What a state's layout is, is said in registry_state: States.)
+use Prim.Native.Nat.{ℕ}
+use mathlib.Core.List.{List, _++_}
+use Rattle.laws.specs.Number.{digits}
+use Rattle.cesr.specs.Numbers.{snBytes}
+use Rattle.cesr.specs.Primitives.{matterBytes}
+use Rattle.cesr.specs.declared.number.Sn.{Sn}
+use Rattle.cesr.specs.declared.primitive.Matter.{Matter}
+use Rattle.cesr.specs.declared.primitive.BasicPrefix.{BasicPrefix}
+use Rattle.codec.specs.Layout.{sectionBytes, prefixBytes, byteBytes}
+
+-- what a credential state is, and what a registry state begins with: two primitives, a number, a primitive
+unfoldable pub headBytes : Matter → Matter → Sn → Matter → List ℕ
+headBytes a b n d = matterBytes a ++ (matterBytes b ++ (snBytes n ++ matterBytes d))
+
+-- what stands behind the head of a registry state
+unfoldable pub restBytes : ℕ → List ℕ → List BasicPrefix → List ℕ
+restBytes toad configs backers = digits 4 toad ++ (sectionBytes byteBytes configs ++ sectionBytes prefixBytes backers)
+
+-- a registry state
+unfoldable pub stateBytes : Matter → Matter → Sn → Matter → ℕ → List ℕ → List BasicPrefix → List ℕ
+stateBytes a b n d toad configs backers = headBytes a b n d ++ restBytes toad configs backers

@@ -1,0 +1,2 @@
+// States, written to lent bytes (docs/RULES.md, "Bytes").
+pub mod writer;

@@ -1,0 +1,108 @@
+// The bytes of states: how many there are, and how they are stored.
+use cesr::number::Sn;
+use cesr::number::has_room;
+use cesr::number::write_u32;
+use cesr::primitive::Matter;
+use events::member_set::Members;
+use events::toad::Toad;
+use events_tel::config::Configs;
+ghost use mathlib.Core.Path.{_≡_};
+ghost use Prim.Native.Nat.{_+_, _*_, _≤_};
+ghost use lib.ListN.{length};
+ghost use lib.Seq.{sets};
+ghost use Rattle.laws.specs.Room.{room, put};
+ghost use Rattle.events_tel.specs.Configs.{viewConfigs};
+ghost use Rattle.events.specs.Members.{view};
+ghost use Rattle.codec.specs.Layout.{sectionBytes, byteBytes, prefixBytes};
+ghost use Rattle.registry_bytes.specs.StateBytes.{headBytes, restBytes, stateBytes};
+
+// How many bytes a registry state has: 121, the config bytes, and 33 for each backer.
+pub fn state_size(configs: Configs, backers: Members) -> usize
+    ensures { λ r. ⌜ r ≡ 121 + length (viewConfigs configs) + 33 * length (view backers) ⌝ }
+{
+    121 + configs.size() + 33 * backers.size()
+}
+
+// The fields of a credential state. Stores all 115 bytes or none, and answers which.
+pub fn write_credential(out: &mut [u8], at: usize, a: Matter, b: Matter, sn: Sn, d: Matter) -> bool
+    ensures { λ r. ⌜ (r ≡ room (now (out .entry)) at 115) × (now (out .exit) ≡ put (now (out .entry)) at (headBytes a b sn d)) ⌝ }
+{
+    if !has_room(out.len(), at, 115) {
+        return false;
+    }
+    write_head(out, at, a, b, sn, d);
+    true
+}
+
+// The fields of a registry state. Stores all its bytes or none, and answers which.
+pub fn write_registry(
+    out: &mut [u8],
+    at: usize,
+    a: Matter,
+    b: Matter,
+    sn: Sn,
+    d: Matter,
+    toad: Toad,
+    configs: Configs,
+    backers: Members,
+) -> bool
+    ensures { λ r. ⌜ (r ≡ room (now (out .entry)) at (length (stateBytes a b sn d (toad .0) (viewConfigs configs) (view backers)))) × (now (out .exit) ≡ put (now (out .entry)) at (stateBytes a b sn d (toad .0) (viewConfigs configs) (view backers))) ⌝ }
+{
+    if !has_room(out.len(), at, state_size(configs, backers)) {
+        return false;
+    }
+    write_head(out, at, a, b, sn, d);
+    write_rest(out, at + 115, toad, configs, backers);
+    true
+}
+
+// Two primitives, a number and a primitive, in 115 bytes.
+fn write_head(out: &mut [u8], at: usize, a: Matter, b: Matter, sn: Sn, d: Matter)
+    requires { ⌜ at + 115 ≤ length (now out) ⌝ }
+    ensures { λ r. ⌜ now (out .exit) ≡ sets (now (out .entry)) at (headBytes a b sn d) ⌝ }
+{
+    a.write(out, at);
+    b.write(out, at + 33);
+    sn.write(out, at + 66);
+    d.write(out, at + 82);
+}
+
+// The threshold and the two sections of a registry state.
+fn write_rest(out: &mut [u8], at: usize, toad: Toad, configs: Configs, backers: Members)
+    requires { ⌜ at + (6 + length (viewConfigs configs) + 33 * length (view backers)) ≤ length (now out) ⌝ }
+    ensures { λ r. ⌜ now (out .exit) ≡ sets (now (out .entry)) at (restBytes (toad .0) (viewConfigs configs) (view backers)) ⌝ }
+{
+    write_u32(out, at, toad.value());
+    let from = at + 4;
+    write_configs(&mut out[from..], configs);
+    let behind = from + 1 + configs.size();
+    write_backers(&mut out[behind..], backers);
+}
+
+// The count of the config bytes, then the bytes.
+fn write_configs(out: &mut [u8], configs: Configs)
+    requires { ⌜ 1 + length (viewConfigs configs) ≤ length (now out) ⌝ }
+    ensures { λ r. ⌜ now (out .exit) ≡ sets (now (out .entry)) 0 (sectionBytes byteBytes (viewConfigs configs)) ⌝ }
+{
+    let n = configs.size();
+    out[0] = n as u8;
+    let mut i: usize = 0;
+    while i < n {
+        out[1 + i] = configs.item(i);
+        i += 1;
+    }
+}
+
+// The count of the backers, then the backers.
+fn write_backers(out: &mut [u8], backers: Members)
+    requires { ⌜ 1 + 33 * length (view backers) ≤ length (now out) ⌝ }
+    ensures { λ r. ⌜ now (out .exit) ≡ sets (now (out .entry)) 0 (sectionBytes prefixBytes (view backers)) ⌝ }
+{
+    let n = backers.size();
+    out[0] = n as u8;
+    let mut i: usize = 0;
+    while i < n {
+        backers.item(i).0.write(out, 1 + 33 * i);
+        i += 1;
+    }
+}

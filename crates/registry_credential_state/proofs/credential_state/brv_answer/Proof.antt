@@ -1,0 +1,91 @@
+use denote.Ref.{now}
+use mathlib.Core.Path.{_≡_, _∙_}
+use native.Mathlib.Omega.{arith}
+use Rattle.registry_authentication.proofs.AnchorUse.{message-in}
+use Rattle.registry_wire.specs.Attempts.{sourcesIn, anchorsIn}
+use Rattle.registry_authentication.specs.Issuers.{anchored}
+use Rattle.events_tel.specs.TelEvents.{snOne}
+use Rattle.registry_credential_state.specs.CredentialFolds.{brvAnswer}
+use Rattle.registry_error.specs.Answers.{firstOf}
+use borrow.Author.Needs.{needs}
+use Rattle.registry_credential_state.proofs.credential_state.brv_answer.Statement.{statement}
+use Rattle.registry_credential_state.proofs.credential_state.brv_answer.Tie as tie
+
+names-registry-requires : tie.Need-names-registry-requires
+names-registry-requires c κs = search needs
+
+accept-if-requires : tie.Need-accept-if-requires
+accept-if-requires c κs = search needs
+
+no-backers-requires : tie.Need-no-backers-requires
+no-backers-requires c κs = search needs
+
+accept-if-requires-2 : tie.Need-accept-if-requires-2
+accept-if-requires-2 c κs = search needs
+
+message-anchored-requires : tie.Need-message-anchored-requires
+message-anchored-requires c κs = search needs
+
+authenticate-backer-requires : tie.Need-authenticate-backer-requires
+authenticate-backer-requires c κs = search needs
+
+transition-requires : tie.Need-transition-requires
+transition-requires c κs = search needs
+
+or-else-requires : tie.Need-or-else-requires
+or-else-requires c κs = search needs
+
+or-else-requires-2 : tie.Need-or-else-requires-2
+or-else-requires-2 c κs = search needs
+
+or-else-requires-3 : tie.Need-or-else-requires-3
+or-else-requires-3 c κs = search needs
+
+or-else-requires-4 : tie.Need-or-else-requires-4
+or-else-requires-4 c κs = search needs
+
+or-else-requires-5 : tie.Need-or-else-requires-5
+or-else-requires-5 c κs = search needs
+
+returns : tie.Need-returns
+unfolding brvAnswer firstOf
+returns c =
+    let b3 = c .before .before .before in
+    let b6 = b3 .before .before .before in
+    let b9 = b6 .before .before .before in
+    let a = b9 .before .before .before .before .before .args .a in
+    let q = b9 .before .before .before .before .before .args in
+    let y = q .a in
+    let anchor : b6 .before .message-anchored .result ≡ anchored (q .g .issuer) (y .event .credential) snOne (y .event .said) (sourcesIn y) (anchorsIn (now (q .s)) (y .anchor)) = b6 .before .message-anchored .ensures ∙ message-in (now (q .s)) y (q .g .issuer) (y .event .credential) snOne (y .event .said) (λ i. omega (arith, b9 .before .before .before .before .shared-slice-known .given i)) (b9 .before .before .before .before .before .pre) in
+    rw (
+      c .or-else5 .ensures,
+      c .before .or-else4 .ensures,
+      c .before .before .or-else3 .ensures,
+      c .before .before .before .or-else2 .ensures,
+      b3 .before .or-else .ensures,
+      b3 .before .before .transition .ensures,
+      b3 .before .before .before .authenticate-backer .ensures (a .issuer) (a .carried),
+      anchor,
+      b6 .before .before .accept-if2 .ensures,
+      b6 .before .before .before .no-backers .ensures,
+      b9 .before .accept-if .ensures,
+      b9 .before .before .names-registry .ensures,
+    )
+
+pub brv-answer-spec : {M : Type 1} → statement M
+brv-answer-spec =
+    tie.close
+    (tie.spec
+    names-registry-requires
+    accept-if-requires
+    no-backers-requires
+    accept-if-requires-2
+    message-anchored-requires
+    authenticate-backer-requires
+    transition-requires
+    or-else-requires
+    or-else-requires-2
+    or-else-requires-3
+    or-else-requires-4
+    or-else-requires-5
+    returns)

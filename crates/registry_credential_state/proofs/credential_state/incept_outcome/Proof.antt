@@ -1,0 +1,49 @@
+use denote.Ref.{now}
+use mathlib.Core.Path.{_≡_, sym, _∙_}
+use mathlib.Core.Bool.{true, false}
+use Rattle.registry_state.specs.States.{viewRegistry}
+use Rattle.registry_wire.specs.Attempts.{viewAttempt}
+use Rattle.registry_error.specs.Answers.{accepts}
+use Rattle.registry_credential_state.proofs.CredentialLaws.{incept-kept}
+use borrow.Author.Needs.{needs}
+use Rattle.registry_credential_state.proofs.credential_state.incept_outcome.Statement.{statement}
+use Rattle.registry_credential_state.proofs.credential_state.incept_outcome.Tie as tie
+
+incept-event-requires : tie.Need-incept-event-requires
+incept-event-requires c κs = search needs
+
+accepts-requires : tie.Need-accepts-requires
+accepts-requires c κs = search needs
+
+issued-requires : tie.Need-issued-requires
+issued-requires c κs = search needs
+
+returns : tie.Need-returns
+returns c =
+    let b3 = c .before .before .before in
+    let z = b3 .before .before .args in
+    let x = b3 .incept-event .result in
+    let h : accepts x ≡ true = sym (c .before .before .accepts .ensures) ∙ c .before .if1 .taken in
+    incept-kept (viewRegistry (z .g)) (viewAttempt (now (z .s)) (z .a)) x (c .issued .result) (b3 .incept-event .ensures) (rw h (c .issued .ensures))
+
+none-requires : tie.Need-none-requires
+none-requires c κs = search needs
+
+returns-2 : tie.Need-returns-2
+returns-2 c =
+    let b3 = c .before .before .before in
+    let z = b3 .before .before .args in
+    let x = b3 .incept-event .result in
+    let h : accepts x ≡ false = sym (c .before .before .accepts .ensures) ∙ c .before .if1 .left in
+    incept-kept (viewRegistry (z .g)) (viewAttempt (now (z .s)) (z .a)) x (c .none .result) (b3 .incept-event .ensures) (rw h (c .none .ensures))
+
+pub incept-outcome-spec : {M : Type 1} → statement M
+incept-outcome-spec =
+    tie.close
+    (tie.spec
+    incept-event-requires
+    accepts-requires
+    issued-requires
+    returns
+    none-requires
+    returns-2)

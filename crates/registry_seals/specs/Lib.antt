@@ -1,0 +1,2 @@
+pub mod SealSections
+pub mod SignatureSections

@@ -1,0 +1,2 @@
+// The input of `status` (docs/RULES.md, "Bytes").
+pub mod status;
