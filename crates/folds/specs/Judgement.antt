@@ -7,7 +7,7 @@ use lib.ListN.{length, take, drop, replicate}
 use Rattle.laws.specs.Number.{numberAt}
 use Rattle.laws.specs.Words.{sameList}
 use Rattle.cesr.specs.Primitives.{isSaid}
-use Rattle.codec.specs.Readers.{Read, starting, isIdentifier}
+use Rattle.codec_cursor.specs.Readers.{Read, starting, isIdentifier}
 use Rattle.codec.specs.Events.{isConfig}
 use Rattle.codec.specs.Layout.{all}
 use Rattle.registry_state.specs.States.{Registry, viewRegistry, registryBytes, credentialBytes, readRegistry, readCredential, isBacker, wellCredential, noCredential}
@@ -17,7 +17,7 @@ use Rattle.registry_error.specs.declared.error.RegistryRejection.the-variants.{
 use Rattle.registry_error.specs.declared.error.Answer.the-variants.{Rejected}
 use Rattle.registry_error.specs.Answers.{accepts}
 use Rattle.registry.specs.RegistryFolds as G
-use Rattle.registry.specs.CredentialFolds as W
+use Rattle.registry_credential_state.specs.CredentialFolds as W
 use Rattle.registry_credential.specs.Status.{statusOf}
 use Rattle.folds.specs.declared.part.Finding.{Finding}
 use Rattle.folds.specs.declared.part.RegistryPart.{RegistryPart}

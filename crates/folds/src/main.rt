@@ -1,10 +1,11 @@
-// Makes recorded calls of the folds and of `status` again, and says of each number from 0 to 39 how many cases expect it and in how
-// many the answer, its details and the state behind it are those of the record.
+// Makes recorded calls of the folds and of `status` again, and says of each number from 0 to 39 how many cases expect it, and in how
+// many of them the answer, its details and the state behind it are the recorded ones.
 //
-// A record is 46 bytes and a body. The bytes: the call (1 to 4 the folds of vcp, vrt, iss and bis, rev and brv; 5 `status`), the number
-// that the Rust gives, the number that is expected, its letter, the evidence kind awaited, how many details there are, two details of
-// 16 bytes (0 where there is none), and four lengths of two bytes. The body has so many bytes of the next state, of the registry state,
-// of the credential state and of the attempt or the input of `status`. After a refusal there is no next state: the one handed in stays.
+// A record is 46 bytes and a body. The bytes: the call (1 to 4 the folds of vcp, vrt, iss and bis, rev and brv; 5 `status`), the Rust's
+// own number, which is another one where the Rust lacks a limit (of malformed bytes, which it is not handed, 1), the number that is
+// expected, its letter, the evidence kind awaited, how many details there are, two details of 16 bytes (0 where there is none), and four
+// lengths of two bytes. The body has so many bytes of the next state, of the registry state, of the credential state, and of the attempt
+// or the input of `status`. Behind a refusal there is no next state, since the one that was handed in stays.
 mod credential_case;
 mod judge;
 mod part;
@@ -150,7 +151,7 @@ fn main() {
     io::write_all(STDOUT_FILENO, b"total: ");
     t.total.print();
     print_line(b"states that are not read: ", t.unread);
-    print_line(b"other numbers in the Rust: ", t.others);
+    print_line(b"another number in the Rust: ", t.others);
     if r.broken {
         io::write_all(STDOUT_FILENO, b"broken\n");
     }

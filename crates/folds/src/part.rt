@@ -1,7 +1,7 @@
 // What a record has: the states that are handed in, and what is found of the case.
 use crate::report::rejected;
 use crate::report::same_told;
-use codec::cursor::Cursor;
+use codec_cursor::cursor::Cursor;
 use registry_error::error::RegistryRejection;
 use registry_state::state::CredentialState;
 use registry_state::state::RegistryState;

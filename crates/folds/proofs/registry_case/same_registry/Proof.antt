@@ -5,9 +5,7 @@ use denote.Ref.{now}
 use lib.ListN.{length}
 use lib.Seq.{length-take-le}
 use Rattle.laws.proofs.Views.{length-mapped}
-use Rattle.events.specs.Configs.{viewConfigs}
-use Rattle.events.specs.Members.{view}
-use Rattle.events.proofs.Configs as C
+use Rattle.events_tel.proofs.Configs as C
 use Rattle.events.proofs.Members as M
 use Rattle.registry_state.specs.States.{viewRegistry, registryBytes}
 use Rattle.registry_state.proofs.StateLoops.{length-registry}
