@@ -1,7 +1,6 @@
 use Rattle.registry_state.specs.States.{credentialBytes}
 use Rattle.folds.proofs.Laws.{filled}
-use mathlib.Core.Path.{_≡_, _∙_}
-use native.Mathlib.Omega.{arith}
+use mathlib.Core.Path.{_∙_}
 use Rattle.registry_state.proofs.StateLoops.{length-credential}
 use borrow.Author.Needs.{needs}
 use Rattle.folds.proofs.credential_case.same_credential.Statement.{statement}
