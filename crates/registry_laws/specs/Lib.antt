@@ -1,1 +1,2 @@
 pub mod ReadingRules
+pub mod States
