@@ -1,2 +1,3 @@
+pub mod Pairs
 pub mod ReadingRules
 pub mod States
