@@ -5,3 +5,4 @@ pub mod Numbers
 pub mod Repeats
 pub mod Revocations
 pub mod Rotations
+pub mod UsedFields
