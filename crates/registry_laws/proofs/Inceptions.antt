@@ -1,5 +1,6 @@
 -- Laws of the inception of a registry.
---     inception-sound   it leaves a state that the reading rules accept
+--     inception-sound     it leaves a state that the reading rules accept
+--     inception-refused   a refusal leaves none
 use Prim.Native.Nat.{ℕ}
 use mathlib.Core.Path.{_≡_, refl}
 use mathlib.Core.List.{List}
@@ -54,6 +55,11 @@ pub inception-sound : (m : Message) → accepts (inceptMessage m .answer) ≡ tr
 unfolding inceptMessage inceptAnswer
 inception-sound m h = rw h (event-sound (m .event) m (or-second (issuerKind (m .evidence)) (inceptEvent (m .event) m) h))
 
+-- A refused inception leaves no state.
+pub inception-refused : (m : Message) → accepts (inceptMessage m .answer) ≡ false → inceptMessage m .state ≡ noRegistry
+unfolding inceptMessage
+inception-refused m h = rw h
+
 -- what holds of malformed bytes, and of every message, holds of all bytes
 pub incept-bytes : (P : Outcome → Type 0) (s : List ℕ) → P (record { answer = Rejected Malformed; state = noRegistry }) → ((m : Message) → P (inceptMessage m)) → P (inceptOf s)
 unfolding inceptOf
@@ -66,3 +72,6 @@ incept-bytes P s bad good = go (decodeOf s)
 pub inception-sound-bytes : (s : List ℕ) → accepts (inceptOf s .answer) ≡ true → soundRegistry (inceptOf s .state) ≡ true
 inception-sound-bytes s =
     incept-bytes (λ r. accepts (r .answer) ≡ true → soundRegistry (r .state) ≡ true) s (λ h. absurd (false≢true h)) inception-sound
+
+pub inception-refused-bytes : (s : List ℕ) → accepts (inceptOf s .answer) ≡ false → inceptOf s .state ≡ noRegistry
+inception-refused-bytes s = incept-bytes (λ r. accepts (r .answer) ≡ false → r .state ≡ noRegistry) s (λ h. refl) inception-refused

@@ -1,5 +1,6 @@
 -- Laws of the issue of a credential.
---     issue-names   it leaves a state of the pair that the event names, at sn 0
+--     issue-names     it leaves a state of the pair that the event names, at sn 0
+--     issue-refused   a refusal leaves none
 use Prim.Native.Nat.{ℕ}
 use mathlib.Core.Path.{_≡_, refl}
 use mathlib.Core.List.{List, [], _∷_}
@@ -40,6 +41,11 @@ pub issue-names : (g : Registry) (m : Message) → accepts (inceptMessage g m .a
 unfolding inceptMessage
 issue-names g m h = rw h (event-names g (m .event) m h)
 
+-- A refused issue leaves no state.
+pub issue-refused : (g : Registry) (m : Message) → accepts (inceptMessage g m .answer) ≡ false → inceptMessage g m .state ≡ noCredential
+unfolding inceptMessage
+issue-refused g m h = rw h
+
 -- what holds of the refusal 1, and of every message, holds of all bytes
 pub incept-bytes : (P : Decoded → Outcome → Type 0) (g : RegistryState) (s : List ℕ) → ((d : Decoded) → P d (record { answer = Rejected Malformed; state = noCredential })) → ((m : Message) → P (decoded m) (inceptMessage (viewRegistry g) m)) → P (decodeOf s) (inceptOf g s)
 unfolding inceptOf
@@ -54,3 +60,7 @@ pub issue-names-bytes : (g : RegistryState) (s : List ℕ) → accepts (inceptOf
 issue-names-bytes g s =
     incept-bytes (λ d r. accepts (r .answer) ≡ true → (pairDecoded d ≡ keyOf (r .state) ∷ []) × (r .state .sn ≡ snZero)) g s
     (λ d h. absurd (false≢true h)) (issue-names (viewRegistry g))
+
+pub issue-refused-bytes : (g : RegistryState) (s : List ℕ) → accepts (inceptOf g s .answer) ≡ false → inceptOf g s .state ≡ noCredential
+issue-refused-bytes g s =
+    incept-bytes (λ d r. accepts (r .answer) ≡ false → r .state ≡ noCredential) g s (λ d h. refl) (issue-refused (viewRegistry g))

@@ -1,7 +1,8 @@
 -- Laws of the revocation of a credential.
---     revocation-keeps    registry and credential stay
---     revocation-names    they are the pair that the event names
---     revocation-counts   the sn goes from 0 to 1
+--     revocation-keeps     registry and credential stay
+--     revocation-names     they are the pair that the event names
+--     revocation-counts    the sn goes from 0 to 1
+--     revocation-refused   a refusal leaves the state
 use Prim.Native.Nat.{ℕ, _≤_}
 use mathlib.Core.Path.{_≡_, refl, sym, ap, _∙_}
 use mathlib.Core.List.{List, [], _∷_}
@@ -123,6 +124,11 @@ revocation-counts g w m k h =
     let next = event-revokes g w (m .event) m (or-second (acceptIf (eqSaid (w .registry) (g .id)) InconsistentRegistry) (ingestEvent g w (m .event) m) h) .1 in
     (omega (arith, behind (w .sn) snOne k next), rw h)
 
+-- A refused revocation leaves the state.
+pub revocation-refused : (g : Registry) (w : CredentialState) (m : Message) → accepts (ingestMessage g w m .answer) ≡ false → ingestMessage g w m .state ≡ w
+unfolding ingestMessage
+revocation-refused g w m h = rw h
+
 -- what holds of the refusal 1, and of every message in bytes with a state that is let through, holds of all bytes
 pub ingest-bytes : (P : Decoded → Outcome → Type 0) (g : RegistryState) (w : CredentialState) (s : List ℕ) → ((d : Decoded) → P d (record { answer = Rejected Malformed; state = w })) → ((m : Message) → wellRegistry g ≡ true → decodeOf s ≡ decoded m → P (decoded m) (ingestMessage (viewRegistry g) w m)) → P (decodeOf s) (ingestOf g w s)
 unfolding ingestOf
@@ -146,3 +152,7 @@ pub revocation-counts-bytes : (g : RegistryState) (w : CredentialState) (s : Lis
 revocation-counts-bytes g w s k =
     ingest-bytes (λ d r. accepts (r .answer) ≡ true → (value (w .sn) ≡ 0) × (r .state .sn ≡ snOne)) g w s (λ d h. absurd (false≢true h))
     (λ m e f. revocation-counts (viewRegistry g) w m k)
+
+pub revocation-refused-bytes : (g : RegistryState) (w : CredentialState) (s : List ℕ) → accepts (ingestOf g w s .answer) ≡ false → ingestOf g w s .state ≡ w
+revocation-refused-bytes g w s =
+    ingest-bytes (λ d r. accepts (r .answer) ≡ false → r .state ≡ w) g w s (λ d h. refl) (λ m e f. revocation-refused (viewRegistry g) w m)

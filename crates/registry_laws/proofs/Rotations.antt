@@ -1,7 +1,8 @@
 -- Laws of the rotations of a registry.
---     rotation-keeps    id, issuer and config stay
---     rotation-counts   the sn goes up by one
---     rotation-sound    from a state that the reading rules accept comes one that they accept
+--     rotation-keeps     id, issuer and config stay
+--     rotation-counts    the sn goes up by one
+--     rotation-sound     from a state that the reading rules accept comes one that they accept
+--     rotation-refused   a refusal leaves the state
 use Prim.Native.Nat.{ℕ, _+_}
 use mathlib.Core.Path.{_≡_, refl}
 use mathlib.Core.List.{List}
@@ -93,6 +94,11 @@ rotation-counts g m k = after-accepted g m (λ r. value (r .sn) ≡ value (g .sn
 pub rotation-sound : (g : Registry) (m : Message) → soundRegistry g ≡ true → soundRegistry (ingestMessage g m .state) ≡ true
 rotation-sound g m k = after-any g m (λ r. soundRegistry r ≡ true) (vrt-sound g m k) k
 
+-- A refused rotation leaves the state.
+pub rotation-refused : (g : Registry) (m : Message) → accepts (ingestMessage g m .answer) ≡ false → ingestMessage g m .state ≡ g
+unfolding ingestMessage
+rotation-refused g m h = rw h
+
 -- what holds of the refusal 1, and of every message, holds of all bytes
 pub ingest-bytes : (P : Outcome → Type 0) (g : RegistryState) (s : List ℕ) → P (record { answer = Rejected Malformed; state = viewRegistry g }) → ((m : Message) → P (ingestMessage (viewRegistry g) m)) → P (ingestOf g s)
 unfolding ingestOf
@@ -113,3 +119,7 @@ rotation-counts-bytes g s k =
 
 pub rotation-sound-bytes : (g : RegistryState) (s : List ℕ) → soundRegistry (viewRegistry g) ≡ true → soundRegistry (ingestOf g s .state) ≡ true
 rotation-sound-bytes g s k = ingest-bytes (λ r. soundRegistry (r .state) ≡ true) g s k (λ m. rotation-sound (viewRegistry g) m k)
+
+pub rotation-refused-bytes : (g : RegistryState) (s : List ℕ) → accepts (ingestOf g s .answer) ≡ false → ingestOf g s .state ≡ viewRegistry g
+rotation-refused-bytes g s =
+    ingest-bytes (λ r. accepts (r .answer) ≡ false → r .state ≡ viewRegistry g) g s (λ h. refl) (rotation-refused (viewRegistry g))
