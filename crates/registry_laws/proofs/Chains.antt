@@ -2,9 +2,9 @@
 --     all-accept                every check accepts
 --     set-sound                 a check of lists that accepts found nothing
 --     else-first, else-second   where two checks of lists together found nothing, each found nothing
-use mathlib.Core.Path.{_≡_, refl, sym, ap, _∙_}
+use mathlib.Core.Path.{_≡_, refl, ap}
 use mathlib.Core.List.{List, [], _∷_}
-use mathlib.Core.Bool.{true, false, false≢true}
+use mathlib.Core.Bool.{true, false≢true}
 use Rattle.events.specs.Members.{orElse}
 use Rattle.events.specs.declared.member_set.Membership.{Membership}
 use Rattle.events.specs.declared.member_set.Membership.the-variants.{Sound, Broken}

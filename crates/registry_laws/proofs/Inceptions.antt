@@ -69,6 +69,7 @@ incept-bytes P s bad good = go (decodeOf s)
     go malformed = bad
     go (decoded m) = good m
 
+-- Both over bytes.
 pub inception-sound-bytes : (s : List ℕ) → accepts (inceptOf s .answer) ≡ true → soundRegistry (inceptOf s .state) ≡ true
 inception-sound-bytes s =
     incept-bytes (λ r. accepts (r .answer) ≡ true → soundRegistry (r .state) ≡ true) s (λ h. absurd (false≢true h)) inception-sound

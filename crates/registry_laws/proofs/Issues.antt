@@ -12,7 +12,6 @@ use Rattle.events.specs.TelEvents.{Event, snZero}
 use Rattle.events.specs.TelEvents.Event.{vcp, vrt, iss, rev, bis, brv}
 use Rattle.registry_state.specs.States.{Registry, viewRegistry, wellRegistry, noCredential}
 use Rattle.registry_state.specs.declared.state.RegistryState.{RegistryState}
-use Rattle.registry_state.specs.declared.state.CredentialState.{CredentialState}
 use Rattle.registry_wire.specs.Attempts.{Message, Decoded, decodeOf}
 use Rattle.registry_wire.specs.Attempts.Decoded.{malformed, decoded}
 use Rattle.registry_error.specs.Answers.{accepts, acceptIf}
@@ -56,6 +55,7 @@ incept-bytes P g s bad good = go (wellRegistry g) (decodeOf s)
     go true (decoded m) = good m
     go false d = bad d
 
+-- Both over bytes.
 pub issue-names-bytes : (g : RegistryState) (s : List ℕ) → accepts (inceptOf g s .answer) ≡ true → (pairOfBytes s ≡ keyOf (inceptOf g s .state) ∷ []) × (inceptOf g s .state .sn ≡ snZero)
 issue-names-bytes g s =
     incept-bytes (λ d r. accepts (r .answer) ≡ true → (pairDecoded d ≡ keyOf (r .state) ∷ []) × (r .state .sn ≡ snZero)) g s

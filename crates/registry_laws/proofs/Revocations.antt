@@ -4,7 +4,7 @@
 --     revocation-counts    the sn goes from 0 to 1
 --     revocation-refused   a refusal leaves the state
 use Prim.Native.Nat.{ℕ, _≤_}
-use mathlib.Core.Path.{_≡_, refl, sym, ap, _∙_}
+use mathlib.Core.Path.{_≡_, refl}
 use mathlib.Core.List.{List, [], _∷_}
 use mathlib.Core.Bool.{Bool, true, false, cond, _&&_, _||_, false≢true}
 use native.Mathlib.Omega.{arith}
@@ -31,7 +31,7 @@ use Rattle.registry_state.specs.declared.state.CredentialState.{CredentialState
 use Rattle.registry_wire.specs.Attempts.{Message, Decoded, decodeOf}
 use Rattle.registry_wire.specs.Attempts.Decoded.{malformed, decoded}
 use Rattle.registry_wire.proofs.CodesAttempt.{decodes}
-use Rattle.registry_error.specs.Answers.{accepts, acceptIf, orElse}
+use Rattle.registry_error.specs.Answers.{accepts, acceptIf}
 use Rattle.registry_error.specs.declared.error.Answer.the-variants.{Rejected}
 use Rattle.registry_error.specs.declared.error.RegistryRejection.the-variants.{Malformed, InconsistentRegistry, InconsistentCredential}
 use Rattle.registry_authentication.specs.Backers.{namesRegistry}
@@ -140,6 +140,7 @@ ingest-bytes P g w s bad good = go (wellRegistry g) refl (wellCredential w) (dec
     go true e false d f = bad d
     go false e u d f = bad d
 
+-- All four over bytes.
 pub revocation-keeps-bytes : (g : RegistryState) (w : CredentialState) (s : List ℕ) → keyOf (ingestOf g w s .state) ≡ keyOf w
 revocation-keeps-bytes g w s = ingest-bytes (λ d r. keyOf (r .state) ≡ keyOf w) g w s (λ d. refl) (λ m e f. revocation-keeps (viewRegistry g) w m)
 

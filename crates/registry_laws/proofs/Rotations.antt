@@ -109,6 +109,7 @@ ingest-bytes P g s bad good = go (wellRegistry g) (decodeOf s)
     go true (decoded m) = good m
     go false d = bad
 
+-- All four over bytes.
 pub rotation-keeps-bytes : (g : RegistryState) (s : List ℕ) → OneRegistry (ingestOf g s .state) (viewRegistry g)
 rotation-keeps-bytes g s =
     ingest-bytes (λ r. OneRegistry (r .state) (viewRegistry g)) g s (record { id = refl; issuer = refl; configs = refl }) (rotation-keeps (viewRegistry g))

@@ -79,7 +79,7 @@ pub issue-reads : (g h : Registry) → OneRegistry g h → (m : Message) → m .
 unfolding inceptMessage
 issue-reads g h one m n = rw (by-issue g h one (m .event) m n, one .id)
 
--- And so does the fold for a revocation.
+-- Of a registry the fold for a revocation reads no more, unless the evidence is Backer.
 pub revocation-reads : (g h : Registry) → OneRegistry g h → (w : CredentialState) (m : Message) → m .evidence ≢ backer → ingestMessage g w m ≡ ingestMessage h w m
 unfolding ingestMessage ingestAnswer
 revocation-reads g h one w m n = rw (by-revocation g h one w (m .event) m n, one .id)

@@ -1,3 +1,4 @@
 pub mod Pairs
+pub mod Positions
 pub mod ReadingRules
 pub mod States
