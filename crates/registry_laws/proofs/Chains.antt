@@ -12,7 +12,6 @@ use Rattle.registry_error.specs.Answers.{accepts, backerSet, firstOf}
 use Rattle.registry_error.specs.declared.error.Answer.{Answer}
 use Rattle.registry_verification.specs.Starred.{All}
 use Rattle.registry.proofs.AnswerLaws.{or-first, or-second}
-use Rattle.registry_laws.specs.ReadingRules.{foundNothing}
 
 pub all-accept : (l : List Answer) → accepts (firstOf l) ≡ true → All (λ x. accepts x ≡ true) l
 unfolding firstOf
@@ -29,4 +28,4 @@ else-first (Broken rule i) b h = h
 
 pub else-second : (a b : Membership) → orElse a b ≡ Sound → b ≡ Sound
 else-second Sound b h = h
-else-second (Broken rule i) b h = absurd (false≢true (ap foundNothing h))
+else-second (Broken rule i) b h = absurd (false≢true (ap (λ (x : Membership). accepts (backerSet x)) h))

@@ -27,7 +27,7 @@ use Rattle.registry.proofs.AnswerLaws.{or-second, passed}
 use Rattle.registry_laws.specs.ReadingRules.{soundRegistry}
 use Rattle.registry_laws.proofs.Chains.{all-accept, set-sound}
 
--- one without the other, in two ways
+-- not the one without the other: either not the one, or the other
 unless : (a b : Bool) → not (a && not b) ≡ true → (not a || b) ≡ true
 unless true true h = refl
 unless true false h = h

@@ -19,20 +19,18 @@ use Rattle.events.specs.Members.{checkMembers, checkDeltas, checkCurrent}
 use Rattle.events.specs.Toads.{exactOk}
 use Rattle.events.specs.TelEvents.{Event}
 use Rattle.events.specs.TelEvents.Event.{vcp, vrt, iss, rev, bis, brv}
-use Rattle.events.specs.declared.member_set.Membership.{Membership}
-use Rattle.events.specs.declared.member_set.Membership.the-variants.{Sound, Broken}
 use Rattle.codec.specs.Layout.{goodSn}
 use Rattle.registry_state.specs.States.{Registry, viewRegistry, wellRegistry}
 use Rattle.registry_state.specs.declared.state.RegistryState.{RegistryState}
 use Rattle.registry_wire.specs.Attempts.{Message, Decoded, decodeOf}
 use Rattle.registry_wire.specs.Attempts.Decoded.{malformed, decoded}
-use Rattle.registry_error.specs.Answers.{accepts}
+use Rattle.registry_error.specs.Answers.{accepts, backerSet}
 use Rattle.registry_error.specs.declared.error.Answer.the-variants.{Rejected}
 use Rattle.registry_error.specs.declared.error.RegistryRejection.the-variants.{Malformed, RotationOnBackerlessRegistry, BackerThreshold}
 use Rattle.registry_verification.specs.Updated.{updatedMembers}
 use Rattle.registry.specs.RegistryFolds.{Outcome, thresholdFits, vrtBackers, vrtAnswer, ingestEvent, rotated, ingestMessage, ingestDecoded, ingestOf}
 use Rattle.registry.proofs.AnswerLaws.{passed}
-use Rattle.registry_laws.specs.ReadingRules.{foundNothing, soundRegistry}
+use Rattle.registry_laws.specs.ReadingRules.{soundRegistry}
 use Rattle.registry_laws.specs.States.{OneRegistry}
 use Rattle.registry_laws.proofs.Chains.{all-accept, set-sound}
 use Rattle.registry_laws.proofs.Numbers.{behind}
@@ -65,10 +63,6 @@ vrt-counts : (g : Registry) (m : Message) → goodSn (g .sn) ≡ true → (said 
 unfolding vrtAnswer
 vrt-counts g m k said registry prior sn toad cuts additions h = behind (g .sn) sn k (all-accept _ h .1 .1 .0)
 
-found-sound : (x : Membership) → foundNothing x ≡ true → x ≡ Sound
-found-sound Sound h = refl
-found-sound (Broken rule i) h = absurd (false≢true h)
-
 vrt-sound : (g : Registry) (m : Message) → soundRegistry g ≡ true → (said registry prior : Said) (sn : Sn) (toad : ℕ) (cuts additions : List BasicPrefix) → accepts (vrtAnswer g said registry prior sn toad cuts additions m) ≡ true → soundRegistry (rotated g (vrt said registry prior sn toad cuts additions)) ≡ true
 unfolding vrtAnswer vrtBackers thresholdFits soundRegistry
 vrt-sound g m k said registry prior sn toad cuts additions h =
@@ -77,7 +71,7 @@ vrt-sound g m k said registry prior sn toad cuts additions h =
     let now = updatedMembers (g .backers) cuts additions in
     let backed = passed (not (noBackers (g .configs))) RotationOnBackerlessRegistry (t .1 .0) in
     let fits = passed (exactOk toad (length now)) BackerThreshold (b .1 .1 .1 .0) in
-    let before = found-sound (checkMembers (g .backers)) (and-left (foundNothing (checkMembers (g .backers))) (exactOk (g .toad) (length (g .backers)) && (not (noBackers (g .configs)) || eqb (length (g .backers)) 0)) k) in
+    let before = set-sound (checkMembers (g .backers)) (and-left (accepts (backerSet (checkMembers (g .backers)))) (exactOk (g .toad) (length (g .backers)) && (not (noBackers (g .configs)) || eqb (length (g .backers)) 0)) k) in
     let members = updated-sound (g .backers) cuts additions before (set-sound (checkDeltas cuts additions) (b .0)) (set-sound (checkCurrent (g .backers) cuts additions) (b .1 .0)) in
     rw (members, fits, backed)
 

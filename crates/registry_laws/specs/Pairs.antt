@@ -17,7 +17,7 @@ pub record Pair : Type 0 where
   pub registry : Said
   pub credential : Said
 
--- under a registry that an own seal names: the i, where the seal is of kind 4 and i is a said
+-- of a brv: its registry is the i of its own seal, where the seal is of kind 4 and i is a said
 abbrev pub pairUnder : Identifier → Said → List Pair
 pairUnder (Basic p) credential = []
 pairUnder (SelfAddressing d) credential = record { registry = d; credential = credential } ∷ []
