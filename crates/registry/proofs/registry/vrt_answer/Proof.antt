@@ -16,8 +16,8 @@ same-requires c κs = search needs
 accept-if-requires : tie.Need-accept-if-requires
 accept-if-requires c κs = search needs
 
-no-backers-requires : tie.Need-no-backers-requires
-no-backers-requires c κs = search needs
+is-backerless-requires : tie.Need-is-backerless-requires
+is-backerless-requires c κs = search needs
 
 accept-if-requires-2 : tie.Need-accept-if-requires-2
 accept-if-requires-2 c κs = search needs
@@ -75,7 +75,7 @@ returns c =
       b6 .before .before .same2 .ensures,
       b6 .before .before .before .next-sn .ensures,
       b9 .before .accept-if2 .ensures,
-      b9 .before .before .no-backers .ensures,
+      b9 .before .before .is-backerless .ensures,
       b9 .before .before .before .accept-if .ensures,
       b12 .before .same .ensures,
       b15 .before .pre .1,
@@ -87,7 +87,7 @@ vrt-answer-spec =
     (tie.spec
     same-requires
     accept-if-requires
-    no-backers-requires
+    is-backerless-requires
     accept-if-requires-2
     next-sn-requires
     same-requires-2

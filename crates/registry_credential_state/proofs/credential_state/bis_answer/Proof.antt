@@ -17,8 +17,8 @@ same-requires c κs = search needs
 accept-if-requires : tie.Need-accept-if-requires
 accept-if-requires c κs = search needs
 
-no-backers-requires : tie.Need-no-backers-requires
-no-backers-requires c κs = search needs
+is-backerless-requires : tie.Need-is-backerless-requires
+is-backerless-requires c κs = search needs
 
 accept-if-requires-2 : tie.Need-accept-if-requires-2
 accept-if-requires-2 c κs = search needs
@@ -58,7 +58,7 @@ returns c =
       b3 .before .authenticate-backer .ensures (a .issuer) (a .carried),
       anchor,
       b3 .before .before .before .accept-if2 .ensures,
-      b6 .before .no-backers .ensures,
+      b6 .before .is-backerless .ensures,
       b6 .before .before .accept-if .ensures,
       b6 .before .before .before .same .ensures,
     )
@@ -69,7 +69,7 @@ bis-answer-spec =
     (tie.spec
     same-requires
     accept-if-requires
-    no-backers-requires
+    is-backerless-requires
     accept-if-requires-2
     message-anchored-requires
     authenticate-backer-requires

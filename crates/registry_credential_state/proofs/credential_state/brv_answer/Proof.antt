@@ -17,8 +17,8 @@ names-registry-requires c κs = search needs
 accept-if-requires : tie.Need-accept-if-requires
 accept-if-requires c κs = search needs
 
-no-backers-requires : tie.Need-no-backers-requires
-no-backers-requires c κs = search needs
+is-backerless-requires : tie.Need-is-backerless-requires
+is-backerless-requires c κs = search needs
 
 accept-if-requires-2 : tie.Need-accept-if-requires-2
 accept-if-requires-2 c κs = search needs
@@ -67,7 +67,7 @@ returns c =
       b3 .before .before .before .authenticate-backer .ensures (a .issuer) (a .carried),
       anchor,
       b6 .before .before .accept-if2 .ensures,
-      b6 .before .before .before .no-backers .ensures,
+      b6 .before .before .before .is-backerless .ensures,
       b9 .before .accept-if .ensures,
       b9 .before .before .names-registry .ensures,
     )
@@ -78,7 +78,7 @@ brv-answer-spec =
     (tie.spec
     names-registry-requires
     accept-if-requires
-    no-backers-requires
+    is-backerless-requires
     accept-if-requires-2
     message-anchored-requires
     authenticate-backer-requires

@@ -17,8 +17,8 @@ same-requires c κs = search needs
 accept-if-requires : tie.Need-accept-if-requires
 accept-if-requires c κs = search needs
 
-no-backers-requires : tie.Need-no-backers-requires
-no-backers-requires c κs = search needs
+is-backerless-requires : tie.Need-is-backerless-requires
+is-backerless-requires c κs = search needs
 
 accept-if-requires-2 : tie.Need-accept-if-requires-2
 accept-if-requires-2 c κs = search needs
@@ -49,7 +49,7 @@ returns c =
       c .before .before .or-else .ensures,
       anchor,
       b3 .before .accept-if2 .ensures,
-      b3 .before .before .no-backers .ensures,
+      b3 .before .before .is-backerless .ensures,
       b3 .before .before .before .accept-if .ensures,
       b6 .before .same .ensures,
     )
@@ -60,7 +60,7 @@ iss-answer-spec =
     (tie.spec
     same-requires
     accept-if-requires
-    no-backers-requires
+    is-backerless-requires
     accept-if-requires-2
     authenticate-issuer-requires
     or-else-requires

@@ -17,8 +17,8 @@ same-requires c κs = search needs
 accept-if-requires : tie.Need-accept-if-requires
 accept-if-requires c κs = search needs
 
-no-backers-requires : tie.Need-no-backers-requires
-no-backers-requires c κs = search needs
+is-backerless-requires : tie.Need-is-backerless-requires
+is-backerless-requires c κs = search needs
 
 accept-if-requires-2 : tie.Need-accept-if-requires-2
 accept-if-requires-2 c κs = search needs
@@ -57,7 +57,7 @@ returns c =
       b3 .before .transition .ensures,
       anchor,
       b3 .before .before .before .accept-if2 .ensures,
-      b6 .before .no-backers .ensures,
+      b6 .before .is-backerless .ensures,
       b6 .before .before .accept-if .ensures,
       b6 .before .before .before .same .ensures,
     )
@@ -68,7 +68,7 @@ rev-answer-spec =
     (tie.spec
     same-requires
     accept-if-requires
-    no-backers-requires
+    is-backerless-requires
     accept-if-requires-2
     authenticate-issuer-requires
     transition-requires
