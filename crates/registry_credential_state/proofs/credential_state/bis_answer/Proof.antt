@@ -1,9 +1,6 @@
 use denote.Ref.{now}
-use mathlib.Core.Path.{_≡_, _∙_}
 use native.Mathlib.Omega.{arith}
 use Rattle.registry_authentication.proofs.AnchorUse.{message-in}
-use Rattle.registry_wire.specs.Attempts.{sourcesIn, anchorsIn}
-use Rattle.registry_authentication.specs.Issuers.{anchored}
 use Rattle.events_tel.specs.TelEvents.{snZero}
 use Rattle.registry_credential_state.specs.CredentialFolds.{bisAnswer}
 use Rattle.registry_error.specs.Answers.{firstOf}
@@ -49,14 +46,14 @@ returns c =
     let a = b6 .before .before .before .before .before .before .args .a in
     let q = b6 .before .before .before .before .before .before .args in
     let y = q .a in
-    let anchor : b3 .before .before .message-anchored .result ≡ anchored (q .g .issuer) (y .event .credential) snZero (y .event .said) (sourcesIn y) (anchorsIn (now (q .s)) (y .anchor)) = b3 .before .before .message-anchored .ensures ∙ message-in (now (q .s)) y (q .g .issuer) (y .event .credential) snZero (y .event .said) (λ i. omega (arith, b6 .before .before .before .before .before .shared-slice-known .given i)) (b6 .before .before .before .before .before .before .pre) in
     rw (
       c .or-else4 .ensures,
       c .before .or-else3 .ensures,
       c .before .before .or-else2 .ensures,
       c .before .before .before .or-else .ensures,
       b3 .before .authenticate-backer .ensures (a .issuer) (a .carried),
-      anchor,
+      b3 .before .before .message-anchored .ensures,
+      message-in (now (q .s)) y (q .g .issuer) (y .event .credential) snZero (y .event .said) (λ i. omega (arith, b6 .before .before .before .before .before .shared-slice-known .given i)) (b6 .before .before .before .before .before .before .pre),
       b3 .before .before .before .accept-if2 .ensures,
       b6 .before .is-backerless .ensures,
       b6 .before .before .accept-if .ensures,
