@@ -2,7 +2,7 @@
 --     incept-kind, vrt-lists      what an accepted attempt was, and which of its checks passed
 --     limit-chain, limit-list     the members after a rotation, or, where they are too many, the refusal alone
 --     incept-lettered, ingest-lettered   an accepted attempt leaves a state with the letters and bytes of its places
-use Prim.Native.Nat.{ℕ}
+use Prim.Native.Nat.{ℕ, _≤_}
 use mathlib.Core.Path.{_≡_, refl, sym, _∙_}
 use mathlib.Core.List.{List}
 use mathlib.Core.Bool.{Bool, true, false, not, cond, _&&_, false≢true}
@@ -124,6 +124,15 @@ ingest-accepted g m x h e k f = rw (f, ← e, k)
 pub ingest-refused : (g : Registry) (m : Message) (x : Answer) → x ≡ ingestEvent g (m .event) m → accepts x ≡ false → record { answer = x; state = g } ≡ ingestMessage g m
 unfolding ingestMessage
 ingest-refused g m x e k = rw (← e, k)
+
+-- a rotation: the next state where it is accepted, else the old one
+pub rotate-ingested : (s : List ℕ) (g : RegistryState) (a : Attempt) (x : Answer) (n : RegistryState) (t : Bool) → x ≡ ingestEvent (viewRegistry g) (viewAttempt s a .event) (viewAttempt s a) → accepts x ≡ t → (accepts x ≡ true → viewRegistry n ≡ rotated (viewRegistry g) (viewAttempt s a .event)) → n .configs ≡ g .configs → n .backers .count ≤ 16 → Ingested s g a (record { answer = x; state = cond t n g })
+rotate-ingested s g a x n true e h f c b =
+    record
+    { outcome = ingest-accepted (viewRegistry g) (viewAttempt s a) x (viewRegistry n) e h (f h); kept = λ k. absurd (false≢true (sym k ∙ h)); counts = λ k. (c, b) }
+rotate-ingested s g a x n false e h f c b =
+    record
+    { outcome = ingest-refused (viewRegistry g) (viewAttempt s a) x e h; kept = λ k. refl; counts = λ k. absurd (false≢true (sym h ∙ k)) }
 
 -- a refusal of a kind
 pub refused-ingested : (s : List ℕ) (g : RegistryState) (a : Attempt) (r : RegistryOutcome) (x : RegistryRejection) → r .answer ≡ Rejected x → r .state ≡ g → ingestEvent (viewRegistry g) (viewAttempt s a .event) (viewAttempt s a) ≡ Rejected x → Ingested s g a r

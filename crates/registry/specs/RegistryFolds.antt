@@ -28,7 +28,7 @@ use Rattle.registry_error.specs.Answers.{accepts, acceptIf, backerSet, orElse, 
 use Rattle.registry_verification.specs.Sequence.{nextSn}
 use Rattle.registry_verification.specs.Updated.{updatedMembers}
 use Rattle.registry_authentication.specs.Issuers.{issuerKind, namesIssuer, anchored, authenticateIssuer}
-use Rattle.registry_authentication.specs.Backers.{enoughReceipts}
+use Rattle.registry_authentication.specs.Backers.{isBackerless, enoughReceipts}
 use Rattle.registry.specs.declared.registry.RegistryOutcome.{RegistryOutcome}
 
 -- an answer, and the state behind it
@@ -102,7 +102,7 @@ unfoldable pub vrtAnswer : Registry → Said → Said → Said → Sn → ℕ �
 vrtAnswer g said registry prior sn toad cuts additions m =
     firstOf
     (acceptIf (eqSaid registry (g .id)) InconsistentRegistry
-    ∷ acceptIf (not (noBackers (g .configs))) RotationOnBackerlessRegistry
+    ∷ acceptIf (not (isBackerless g)) RotationOnBackerlessRegistry
     ∷ nextSn (g .sn) sn
     ∷ acceptIf (eqSaid prior (g .latest)) PriorDigestMismatch
     ∷ authenticateIssuer (g .issuer) registry sn said m

@@ -6,6 +6,7 @@ use events::toad::Toad;
 use events_tel::tel::Kind;
 use events_tel::tel::TelEvent;
 use registry_authentication::backer::enough_receipts;
+use registry_authentication::backer::is_backerless;
 use registry_authentication::issuer::authenticate_issuer;
 use registry_authentication::issuer::issuer_kind;
 use registry_authentication::issuer::message_anchored;
@@ -22,7 +23,7 @@ use registry_verification::state::updated_members;
 use registry_wire::attempt::Attempt;
 ghost use Prim.Native.Nat.{_≤_};
 ghost use mathlib.Core.Path.{_≡_};
-ghost use mathlib.Core.Bool.{true, false};
+ghost use mathlib.Core.Bool.{true, false, cond};
 ghost use Rattle.events_tel.specs.Configs.{viewConfigs};
 ghost use Rattle.events.specs.Members.{view};
 ghost use Rattle.events_tel.specs.TelEvents.{viewEvent};
@@ -180,7 +181,7 @@ fn vrt_answer(g: RegistryState, a: Attempt, s: &[u8], backers: Answer) -> Answer
         RegistryRejection::InconsistentRegistry,
     );
     let flavor = accept_if(
-        !g.configs.no_backers(),
+        !is_backerless(g),
         RegistryRejection::RotationOnBackerlessRegistry,
     );
     let place = next_sn(g.sn, sn);
@@ -193,6 +194,16 @@ fn vrt_answer(g: RegistryState, a: Attempt, s: &[u8], backers: Answer) -> Answer
     or_else(routed, or_else(flavor, or_else(place, late)))
 }
 
+// The next state where an attempt is accepted, else the old one.
+fn replaced(accepted: bool, old: RegistryState, next: RegistryState) -> RegistryState
+    ensures { λ r. ⌜ r ≡ cond accepted next old ⌝ }
+{
+    if accepted {
+        return next;
+    }
+    old
+}
+
 // A vrt's answer, and the state that it leaves: id, issuer and config stay.
 fn rotate(g: RegistryState, a: Attempt, s: &[u8]) -> RegistryOutcome
     requires { ⌜ Anchored (now s) a × (a .event .kind ≡ Vrt) ⌝ }
@@ -200,33 +211,25 @@ fn rotate(g: RegistryState, a: Attempt, s: &[u8]) -> RegistryOutcome
 {
     let rotation = vrt_backers(g.backers, a, s);
     let late = rotation.answer;
-    let verdict = vrt_answer(g, a, s, late);
-    if accepts(verdict) {
-        let id = g.id;
-        let issuer = g.issuer;
-        let sn = a.event.sn;
-        let latest = a.event.said;
-        let toad = a.event.toad;
-        let configs = g.configs;
-        let backers = rotation.backers;
-        let state = RegistryState {
-            id,
-            issuer,
-            sn,
-            latest,
-            toad,
-            configs,
-            backers,
-        };
-        return RegistryOutcome {
-            answer: verdict,
-            state,
-        };
-    }
-    RegistryOutcome {
-        answer: verdict,
-        state: g,
-    }
+    let answer = vrt_answer(g, a, s, late);
+    let id = g.id;
+    let issuer = g.issuer;
+    let sn = a.event.sn;
+    let latest = a.event.said;
+    let toad = a.event.toad;
+    let configs = g.configs;
+    let backers = rotation.backers;
+    let next = RegistryState {
+        id,
+        issuer,
+        sn,
+        latest,
+        toad,
+        configs,
+        backers,
+    };
+    let state = replaced(accepts(answer), g, next);
+    RegistryOutcome { answer, state }
 }
 
 // A refusal: the state stays.

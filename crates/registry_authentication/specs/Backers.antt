@@ -12,6 +12,7 @@ use Rattle.cesr.specs.declared.primitive.Said.{Said}
 use Rattle.events.specs.Identifiers.{matterOf}
 use Rattle.events.specs.Members.{checkMembers}
 use Rattle.events.specs.Toads.{exactOk}
+use Rattle.events_tel.specs.Configs.{noBackers}
 use Rattle.events.specs.declared.seal.Seal.{Seal}
 use Rattle.events.specs.declared.seal.Seal.the-variants.{Digest, Root, Source, Event, Last, Back, Kind, Opaque}
 use Rattle.registry_state.specs.States.{Registry}
@@ -23,6 +24,10 @@ use Rattle.registry_error.specs.declared.error.Answer.{Answer}
 use Rattle.registry_error.specs.declared.error.Answer.the-variants.{Rejected}
 use Rattle.registry_error.specs.Answers.{acceptIf, backerSet, orElse, firstOf}
 use Rattle.registry_verification.specs.Receipts.{receipts}
+
+-- a registry is backerless by its trait NoBackers, never by its list
+abbrev pub isBackerless : Registry → Bool
+isBackerless g = noBackers (g .configs)
 
 -- whether two states are of one registry: id, issuer and config, which are equal only as lists
 unfoldable pub sameRegistry : Registry → Registry → Bool

@@ -23,7 +23,14 @@ ghost use Rattle.registry_state.specs.States.{viewRegistry};
 ghost use Rattle.registry_wire.specs.Attempts.{evidenceAs};
 ghost use Rattle.registry_seals.specs.SignatureSections.{signaturesIn};
 ghost use Rattle.registry_wire.specs.declared.attempt.Part.{Part};
-ghost use Rattle.registry_authentication.specs.Backers.{sameRegistry, standsAt, resolvedBy, namesRegistry, resolved, authority, enoughReceipts, backedBy, authenticateBacker};
+ghost use Rattle.registry_authentication.specs.Backers.{isBackerless, sameRegistry, standsAt, resolvedBy, namesRegistry, resolved, authority, enoughReceipts, backedBy, authenticateBacker};
+
+// Whether the trait NoBackers is set. The list of backers is not looked at.
+pub fn is_backerless(g: RegistryState) -> bool
+    ensures { λ r. ⌜ r ≡ isBackerless (viewRegistry g) ⌝ }
+{
+    g.configs.no_backers()
+}
 
 // Whether two states are of one registry: id, issuer and config are the same.
 pub fn same_registry(g: RegistryState, h: RegistryState) -> bool

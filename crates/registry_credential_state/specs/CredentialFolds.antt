@@ -4,7 +4,6 @@ use mathlib.Core.List.{List, [], _∷_}
 use mathlib.Core.Bool.{not, cond, _&&_}
 use Rattle.cesr.specs.Primitives.{eqSaid}
 use Rattle.cesr.specs.declared.primitive.Said.{Said}
-use Rattle.events_tel.specs.Configs.{noBackers}
 use Rattle.events_tel.specs.TelEvents.{Event, snZero, snOne}
 use Rattle.events_tel.specs.TelEvents.Event.{vcp, vrt, iss, rev, bis, brv}
 use Rattle.events.specs.declared.seal.Seal.{Seal}
@@ -18,7 +17,7 @@ use Rattle.registry_error.specs.declared.error.Answer.{Answer}
 use Rattle.registry_error.specs.declared.error.Answer.the-variants.{Rejected}
 use Rattle.registry_error.specs.Answers.{accepts, acceptIf, orElse, firstOf}
 use Rattle.registry_authentication.specs.Issuers.{anchored, authenticateIssuer}
-use Rattle.registry_authentication.specs.Backers.{namesRegistry, authenticateBacker}
+use Rattle.registry_authentication.specs.Backers.{isBackerless, namesRegistry, authenticateBacker}
 use Rattle.registry_verification.specs.Sequence.{nextSn}
 use Rattle.registry_credential_state.specs.declared.credential_state.CredentialOutcome.{CredentialOutcome}
 
@@ -32,7 +31,7 @@ unfoldable pub issAnswer : Registry → Said → Said → Said → Message → A
 issAnswer g said credential registry m =
     firstOf
     (acceptIf (eqSaid registry (g .id)) InconsistentRegistry
-    ∷ acceptIf (noBackers (g .configs)) SimpleEventOnBackerRegistry
+    ∷ acceptIf (isBackerless g) SimpleEventOnBackerRegistry
     ∷ authenticateIssuer (g .issuer) credential snZero said m
     ∷ [])
 
@@ -41,7 +40,7 @@ unfoldable pub bisAnswer : Registry → Said → Said → Said → Seal → Mess
 bisAnswer g said credential registry seal m =
     firstOf
     (acceptIf (eqSaid registry (g .id)) InconsistentRegistry
-    ∷ acceptIf (not (noBackers (g .configs))) BackedEventOnBackerlessRegistry
+    ∷ acceptIf (not (isBackerless g)) BackedEventOnBackerlessRegistry
     ∷ anchored (g .issuer) credential snZero said (m .source) (m .anchor)
     ∷ authenticateBacker g seal (m .evidence) (m .signatures)
     ∷ [])
@@ -90,7 +89,7 @@ unfoldable pub revAnswer : Registry → CredentialState → Said → Said → Sa
 revAnswer g w said credential registry prior m =
     firstOf
     (acceptIf (eqSaid registry (g .id)) InconsistentRegistry
-    ∷ acceptIf (noBackers (g .configs)) SimpleEventOnBackerRegistry
+    ∷ acceptIf (isBackerless g) SimpleEventOnBackerRegistry
     ∷ authenticateIssuer (g .issuer) credential snOne said m
     ∷ transition w credential prior
     ∷ [])
@@ -100,7 +99,7 @@ unfoldable pub brvAnswer : Registry → CredentialState → Said → Said → Sa
 brvAnswer g w said credential prior seal m =
     firstOf
     (acceptIf (namesRegistry seal (g .id)) InconsistentRegistry
-    ∷ acceptIf (not (noBackers (g .configs))) BackedEventOnBackerlessRegistry
+    ∷ acceptIf (not (isBackerless g)) BackedEventOnBackerlessRegistry
     ∷ anchored (g .issuer) credential snOne said (m .source) (m .anchor)
     ∷ authenticateBacker g seal (m .evidence) (m .signatures)
     ∷ transition w credential prior

@@ -4,6 +4,7 @@ use cesr::primitive::Said;
 use events_tel::tel::Kind;
 use events_tel::tel::TelEvent;
 use registry_authentication::backer::authenticate_backer;
+use registry_authentication::backer::is_backerless;
 use registry_authentication::backer::names_registry;
 use registry_authentication::issuer::authenticate_issuer;
 use registry_authentication::issuer::message_anchored;
@@ -41,7 +42,7 @@ fn iss_answer(g: RegistryState, a: Attempt, s: &[u8]) -> Answer
         RegistryRejection::InconsistentRegistry,
     );
     let flavor = accept_if(
-        g.configs.no_backers(),
+        is_backerless(g),
         RegistryRejection::SimpleEventOnBackerRegistry,
     );
     let anchor = authenticate_issuer(a, s, g.issuer, a.event.credential, zero);
@@ -61,7 +62,7 @@ fn bis_answer(g: RegistryState, a: Attempt, s: &[u8]) -> Answer
         RegistryRejection::InconsistentRegistry,
     );
     let flavor = accept_if(
-        !g.configs.no_backers(),
+        !is_backerless(g),
         RegistryRejection::BackedEventOnBackerlessRegistry,
     );
     let anchor = message_anchored(a, s, g.issuer, a.event.credential, zero);
@@ -176,7 +177,7 @@ fn rev_answer(g: RegistryState, w: CredentialState, a: Attempt, s: &[u8]) -> Ans
         RegistryRejection::InconsistentRegistry,
     );
     let flavor = accept_if(
-        g.configs.no_backers(),
+        is_backerless(g),
         RegistryRejection::SimpleEventOnBackerRegistry,
     );
     let anchor = authenticate_issuer(a, s, g.issuer, a.event.credential, one);
@@ -200,7 +201,7 @@ fn brv_answer(g: RegistryState, w: CredentialState, a: Attempt, s: &[u8]) -> Ans
         RegistryRejection::InconsistentRegistry,
     );
     let flavor = accept_if(
-        !g.configs.no_backers(),
+        !is_backerless(g),
         RegistryRejection::BackedEventOnBackerlessRegistry,
     );
     let anchor = message_anchored(a, s, g.issuer, a.event.credential, one);

@@ -1,8 +1,5 @@
-use mathlib.Core.Path.{_≡_, _∙_}
 use native.Mathlib.Omega.{arith}
 use Rattle.registry_authentication.proofs.AnchorUse.{message-in}
-use Rattle.registry_wire.specs.Attempts.{sourcesIn, anchorsIn}
-use Rattle.registry_authentication.specs.Issuers.{anchored}
 use Rattle.events_tel.specs.TelEvents.{snZero}
 use denote.Ref.{now}
 use Rattle.registry.specs.RegistryFolds.{vcpAnswer}
@@ -70,7 +67,6 @@ returns c =
     let a = z .a in
     let q = b12 .before .before .before .before .before .before .before .before .args in
     let y = q .a in
-    let anchor : b6 .before .message-anchored .result ≡ anchored (y .event .issuer) (y .event .said) snZero (y .event .said) (sourcesIn y) (anchorsIn (now (q .s)) (y .anchor)) = b6 .before .message-anchored .ensures ∙ message-in (now (q .s)) y (y .event .issuer) (y .event .said) snZero (y .event .said) (λ i. omega (arith, b12 .before .before .before .before .before .before .before .shared-slice-known .given i)) (b12 .before .before .before .before .before .before .before .before .pre) in
     rw (
       c .or-else6 .ensures,
       c .before .or-else5 .ensures,
@@ -79,7 +75,8 @@ returns c =
       b3 .before .or-else2 .ensures,
       b3 .before .before .or-else .ensures,
       b3 .before .before .before .enough-receipts .ensures,
-      anchor,
+      b6 .before .message-anchored .ensures,
+      message-in (now (q .s)) y (y .event .issuer) (y .event .said) snZero (y .event .said) (λ i. omega (arith, b12 .before .before .before .before .before .before .before .shared-slice-known .given i)) (b12 .before .before .before .before .before .before .before .before .pre),
       b6 .before .before .threshold-fits .ensures,
       b6 .before .before .before .backer-set .ensures,
       b9 .before .check-members .ensures .0,

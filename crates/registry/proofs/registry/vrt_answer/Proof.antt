@@ -1,9 +1,6 @@
 use denote.Ref.{now}
-use mathlib.Core.Path.{_≡_, _∙_}
 use native.Mathlib.Omega.{arith}
 use Rattle.registry_authentication.proofs.AnchorUse.{issuer-in}
-use Rattle.registry_wire.specs.Attempts.{viewAttempt}
-use Rattle.registry_authentication.specs.Issuers.{authenticateIssuer}
 use Rattle.registry.specs.RegistryFolds.{vrtAnswer}
 use Rattle.registry_error.specs.Answers.{firstOf}
 use borrow.Author.Needs.{needs}
@@ -16,8 +13,8 @@ same-requires c κs = search needs
 accept-if-requires : tie.Need-accept-if-requires
 accept-if-requires c κs = search needs
 
-no-backers-requires : tie.Need-no-backers-requires
-no-backers-requires c κs = search needs
+is-backerless-requires : tie.Need-is-backerless-requires
+is-backerless-requires c κs = search needs
 
 accept-if-requires-2 : tie.Need-accept-if-requires-2
 accept-if-requires-2 c κs = search needs
@@ -62,7 +59,6 @@ returns c =
     let b15 = b12 .before .before .before in
     let q = b15 .before .args in
     let y = q .a in
-    let anchor : b3 .before .before .before .authenticate-issuer .result ≡ authenticateIssuer (q .g .issuer) (y .event .registry) (y .event .sn) (y .event .said) (viewAttempt (now (q .s)) y) = b3 .before .before .before .authenticate-issuer .ensures ∙ issuer-in (now (q .s)) y (q .g .issuer) (y .event .registry) (y .event .sn) (y .event .said) (λ i. omega (arith, b15 .shared-slice-known .given i)) (b15 .before .pre .0) in
     rw (
       c .or-else6 .ensures,
       c .before .or-else5 .ensures,
@@ -70,12 +66,13 @@ returns c =
       c .before .before .before .or-else3 .ensures,
       b3 .before .or-else2 .ensures,
       b3 .before .before .or-else .ensures,
-      anchor,
+      b3 .before .before .before .authenticate-issuer .ensures,
+      issuer-in (now (q .s)) y (q .g .issuer) (y .event .registry) (y .event .sn) (y .event .said) (λ i. omega (arith, b15 .shared-slice-known .given i)) (b15 .before .pre .0),
       b6 .before .accept-if3 .ensures,
       b6 .before .before .same2 .ensures,
       b6 .before .before .before .next-sn .ensures,
       b9 .before .accept-if2 .ensures,
-      b9 .before .before .no-backers .ensures,
+      b9 .before .before .is-backerless .ensures,
       b9 .before .before .before .accept-if .ensures,
       b12 .before .same .ensures,
       b15 .before .pre .1,
@@ -87,7 +84,7 @@ vrt-answer-spec =
     (tie.spec
     same-requires
     accept-if-requires
-    no-backers-requires
+    is-backerless-requires
     accept-if-requires-2
     next-sn-requires
     same-requires-2

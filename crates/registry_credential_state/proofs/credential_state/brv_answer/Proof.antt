@@ -1,9 +1,6 @@
 use denote.Ref.{now}
-use mathlib.Core.Path.{_≡_, _∙_}
 use native.Mathlib.Omega.{arith}
 use Rattle.registry_authentication.proofs.AnchorUse.{message-in}
-use Rattle.registry_wire.specs.Attempts.{sourcesIn, anchorsIn}
-use Rattle.registry_authentication.specs.Issuers.{anchored}
 use Rattle.events_tel.specs.TelEvents.{snOne}
 use Rattle.registry_credential_state.specs.CredentialFolds.{brvAnswer}
 use Rattle.registry_error.specs.Answers.{firstOf}
@@ -17,8 +14,8 @@ names-registry-requires c κs = search needs
 accept-if-requires : tie.Need-accept-if-requires
 accept-if-requires c κs = search needs
 
-no-backers-requires : tie.Need-no-backers-requires
-no-backers-requires c κs = search needs
+is-backerless-requires : tie.Need-is-backerless-requires
+is-backerless-requires c κs = search needs
 
 accept-if-requires-2 : tie.Need-accept-if-requires-2
 accept-if-requires-2 c κs = search needs
@@ -56,7 +53,6 @@ returns c =
     let a = b9 .before .before .before .before .before .args .a in
     let q = b9 .before .before .before .before .before .args in
     let y = q .a in
-    let anchor : b6 .before .message-anchored .result ≡ anchored (q .g .issuer) (y .event .credential) snOne (y .event .said) (sourcesIn y) (anchorsIn (now (q .s)) (y .anchor)) = b6 .before .message-anchored .ensures ∙ message-in (now (q .s)) y (q .g .issuer) (y .event .credential) snOne (y .event .said) (λ i. omega (arith, b9 .before .before .before .before .shared-slice-known .given i)) (b9 .before .before .before .before .before .pre) in
     rw (
       c .or-else5 .ensures,
       c .before .or-else4 .ensures,
@@ -65,9 +61,10 @@ returns c =
       b3 .before .or-else .ensures,
       b3 .before .before .transition .ensures,
       b3 .before .before .before .authenticate-backer .ensures (a .issuer) (a .carried),
-      anchor,
+      b6 .before .message-anchored .ensures,
+      message-in (now (q .s)) y (q .g .issuer) (y .event .credential) snOne (y .event .said) (λ i. omega (arith, b9 .before .before .before .before .shared-slice-known .given i)) (b9 .before .before .before .before .before .pre),
       b6 .before .before .accept-if2 .ensures,
-      b6 .before .before .before .no-backers .ensures,
+      b6 .before .before .before .is-backerless .ensures,
       b9 .before .accept-if .ensures,
       b9 .before .before .names-registry .ensures,
     )
@@ -78,7 +75,7 @@ brv-answer-spec =
     (tie.spec
     names-registry-requires
     accept-if-requires
-    no-backers-requires
+    is-backerless-requires
     accept-if-requires-2
     message-anchored-requires
     authenticate-backer-requires

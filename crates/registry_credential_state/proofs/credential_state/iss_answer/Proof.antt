@@ -1,9 +1,6 @@
 use denote.Ref.{now}
-use mathlib.Core.Path.{_≡_, _∙_}
 use native.Mathlib.Omega.{arith}
 use Rattle.registry_authentication.proofs.AnchorUse.{issuer-in}
-use Rattle.registry_wire.specs.Attempts.{viewAttempt}
-use Rattle.registry_authentication.specs.Issuers.{authenticateIssuer}
 use Rattle.events_tel.specs.TelEvents.{snZero}
 use Rattle.registry_credential_state.specs.CredentialFolds.{issAnswer}
 use Rattle.registry_error.specs.Answers.{firstOf}
@@ -17,8 +14,8 @@ same-requires c κs = search needs
 accept-if-requires : tie.Need-accept-if-requires
 accept-if-requires c κs = search needs
 
-no-backers-requires : tie.Need-no-backers-requires
-no-backers-requires c κs = search needs
+is-backerless-requires : tie.Need-is-backerless-requires
+is-backerless-requires c κs = search needs
 
 accept-if-requires-2 : tie.Need-accept-if-requires-2
 accept-if-requires-2 c κs = search needs
@@ -42,14 +39,14 @@ returns c =
     let b6 = b3 .before .before .before in
     let q = b6 .before .before .before .args in
     let y = q .a in
-    let anchor : c .before .before .before .authenticate-issuer .result ≡ authenticateIssuer (q .g .issuer) (y .event .credential) snZero (y .event .said) (viewAttempt (now (q .s)) y) = c .before .before .before .authenticate-issuer .ensures ∙ issuer-in (now (q .s)) y (q .g .issuer) (y .event .credential) snZero (y .event .said) (λ i. omega (arith, b6 .before .before .shared-slice-known .given i)) (b6 .before .before .before .pre) in
     rw (
       c .or-else3 .ensures,
       c .before .or-else2 .ensures,
       c .before .before .or-else .ensures,
-      anchor,
+      c .before .before .before .authenticate-issuer .ensures,
+      issuer-in (now (q .s)) y (q .g .issuer) (y .event .credential) snZero (y .event .said) (λ i. omega (arith, b6 .before .before .shared-slice-known .given i)) (b6 .before .before .before .pre),
       b3 .before .accept-if2 .ensures,
-      b3 .before .before .no-backers .ensures,
+      b3 .before .before .is-backerless .ensures,
       b3 .before .before .before .accept-if .ensures,
       b6 .before .same .ensures,
     )
@@ -60,7 +57,7 @@ iss-answer-spec =
     (tie.spec
     same-requires
     accept-if-requires
-    no-backers-requires
+    is-backerless-requires
     accept-if-requires-2
     authenticate-issuer-requires
     or-else-requires

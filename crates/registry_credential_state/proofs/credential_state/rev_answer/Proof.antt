@@ -1,9 +1,6 @@
 use denote.Ref.{now}
-use mathlib.Core.Path.{_≡_, _∙_}
 use native.Mathlib.Omega.{arith}
 use Rattle.registry_authentication.proofs.AnchorUse.{issuer-in}
-use Rattle.registry_wire.specs.Attempts.{viewAttempt}
-use Rattle.registry_authentication.specs.Issuers.{authenticateIssuer}
 use Rattle.events_tel.specs.TelEvents.{snOne}
 use Rattle.registry_credential_state.specs.CredentialFolds.{revAnswer}
 use Rattle.registry_error.specs.Answers.{firstOf}
@@ -17,8 +14,8 @@ same-requires c κs = search needs
 accept-if-requires : tie.Need-accept-if-requires
 accept-if-requires c κs = search needs
 
-no-backers-requires : tie.Need-no-backers-requires
-no-backers-requires c κs = search needs
+is-backerless-requires : tie.Need-is-backerless-requires
+is-backerless-requires c κs = search needs
 
 accept-if-requires-2 : tie.Need-accept-if-requires-2
 accept-if-requires-2 c κs = search needs
@@ -48,16 +45,16 @@ returns c =
     let b6 = b3 .before .before .before in
     let q = b6 .before .before .before .before .before .args in
     let y = q .a in
-    let anchor : b3 .before .before .authenticate-issuer .result ≡ authenticateIssuer (q .g .issuer) (y .event .credential) snOne (y .event .said) (viewAttempt (now (q .s)) y) = b3 .before .before .authenticate-issuer .ensures ∙ issuer-in (now (q .s)) y (q .g .issuer) (y .event .credential) snOne (y .event .said) (λ i. omega (arith, b6 .before .before .before .before .shared-slice-known .given i)) (b6 .before .before .before .before .before .pre) in
     rw (
       c .or-else4 .ensures,
       c .before .or-else3 .ensures,
       c .before .before .or-else2 .ensures,
       c .before .before .before .or-else .ensures,
       b3 .before .transition .ensures,
-      anchor,
+      b3 .before .before .authenticate-issuer .ensures,
+      issuer-in (now (q .s)) y (q .g .issuer) (y .event .credential) snOne (y .event .said) (λ i. omega (arith, b6 .before .before .before .before .shared-slice-known .given i)) (b6 .before .before .before .before .before .pre),
       b3 .before .before .before .accept-if2 .ensures,
-      b6 .before .no-backers .ensures,
+      b6 .before .is-backerless .ensures,
       b6 .before .before .accept-if .ensures,
       b6 .before .before .before .same .ensures,
     )
@@ -68,7 +65,7 @@ rev-answer-spec =
     (tie.spec
     same-requires
     accept-if-requires
-    no-backers-requires
+    is-backerless-requires
     accept-if-requires-2
     authenticate-issuer-requires
     transition-requires

@@ -1,0 +1,10 @@
+pub mod Chains
+pub mod Inceptions
+pub mod Issues
+pub mod Numbers
+pub mod Placed
+pub mod Positions
+pub mod Repeats
+pub mod Revocations
+pub mod Rotations
+pub mod UsedFields

@@ -1,0 +1,4 @@
+pub mod Pairs
+pub mod Positions
+pub mod ReadingRules
+pub mod States
