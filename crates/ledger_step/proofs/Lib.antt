@@ -1,5 +1,9 @@
 pub mod Cells
+pub mod Changes
 pub mod Lacking
+pub mod NewStates
 pub mod Places
+pub mod Rules
 pub mod Runs
+pub mod StepSound
 pub mod TableLaws

@@ -11,6 +11,7 @@ use mathlib.Core.Bool.{Bool, true, false, cond, not, _&&_, _||_, true≢false, f
 use mathlib.Core.Option.{Option, none, some, Option·none-ne-some, Option·some-ne-none, Option·some-injective, Option·map}
 use mathlib.Core.List.{List, [], _∷_, _++_, map}
 use native.Mathlib.Omega.{arith}
+use borrow.Author.Tests.{not-true}
 use lib.ListN.{length}
 use Rattle.laws.proofs.Tests.{and-left, and-right}
 use Rattle.codec.specs.Layout.{all}
@@ -20,10 +21,6 @@ use Rattle.ledger_step.specs.Tables.{has, distinct, find, put, found}
 pub record Tests {K : Type 0} (eq : K → K → Bool) : Type 0 where
   pub equal : (a b : K) → eq a b ≡ true → a ≡ b
   pub same : (a : K) → eq a a ≡ true
-
-not-true : (b : Bool) → not b ≡ true → b ≡ false
-not-true true e = absurd (false≢true e)
-not-true false e = refl
 
 or-left : (a b : Bool) → (a || b) ≡ false → a ≡ false
 or-left true b e = absurd (true≢false e)

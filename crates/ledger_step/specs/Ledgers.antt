@@ -66,11 +66,10 @@ hasRegistry ids w = has eqSaid (w .registry) ids
 abbrev pub zeroOrOne : CredentialState → Bool
 zeroOrOne w = leb (value (w .sn)) 1
 
--- the reading rules
-unfoldable pub sound : Ledger → Bool
-sound l =
-    holds
-    (leb (l .registryCount) 16
+-- the reading rules: each is a test
+abbrev pub rules : Ledger → List Bool
+rules l =
+    leb (l .registryCount) 16
     ∷ eqb (l .slots) 256
     ∷ leb (l .rowCount) 256
     ∷ all keepsLayout (l .registries)
@@ -80,7 +79,10 @@ sound l =
     ∷ all (hasRegistry (idsOf l)) (l .rows)
     ∷ all zeroOrOne (l .rows)
     ∷ all keepsRules (l .registries)
-    ∷ [])
+    ∷ []
+
+unfoldable pub sound : Ledger → Bool
+sound l = holds (rules l)
 
 -- the two numbers of a look-up: 0 or the refusal 1; 1 Issued, 2 Revoked, 3 Unknown, or 0 after a refusal
 pub record LookedUp : Type 0 where
