@@ -76,7 +76,9 @@ request-read s b = go (decodeOf s) refl
     go malformed e = tt
     go (decoded m) e = event-read (m .event) m refl (good-event m (decodes s m b .0 e .1))
 
-pub record NewRegistry (s : Ledger) (g : Registry) : Type 0 where
+pub record NewRegistry (s : Ledger) (q : Request) (g : Registry) : Type 0 where
+  pub message : Message
+  pub asked : q ≡ inception (g .id) message
   pub absent : registryAt s (g .id) ≡ none
   pub ruled : soundRegistry g ≡ true
   pub room : s .registryCount < 16
@@ -108,7 +110,7 @@ pub record SetRow (s : Ledger) (q : Request) (k : Pair) (w : CredentialState) : 
 
 abbrev pub Legal : Ledger → Request → Effect → Type 0
 Legal s q (refuse r) = Unit {0}
-Legal s q (newRegistry g) = NewRegistry s g
+Legal s q (newRegistry g) = NewRegistry s q g
 Legal s q (setRegistry id g) = SetRegistry s q id g
 Legal s q (newRow w) = NewRow s q w
 Legal s q (setRow k w) = SetRow s q k w
@@ -130,7 +132,10 @@ inception-legal s id m r (some g) e = tt
 inception-legal s id m r none e =
     after-legal s (inception id m) (R.inceptMessage m .answer) (withRoom (s .registryCount) 16 (newRegistry (R.inceptMessage m .state)))
     (λ h. room-legal s (inception id m) (s .registryCount) 16 (newRegistry (R.inceptMessage m .state))
-    (λ room. record { absent = rw (inception-id m h, r) e; ruled = inception-sound m h; room = room }))
+    (λ room.
+    let same : R.inceptMessage m .state .id ≡ id = inception-id m h ∙ r in
+    record
+    { message = m; asked = ap (λ (z : Said). inception z m) (sym same); absent = ap (registryAt s) same ∙ e; ruled = inception-sound m h; room = room }))
 
 rotation-legal : (s : Ledger) (id : Said) (m : Message) → Keeps s → (o : Option Held) → registryAt s id ≡ o → Legal s (rotation id m) (rotationEffect id m o)
 rotation-legal s id m k none e = tt
@@ -179,8 +184,8 @@ effect-legal s (revocation p m) k d = revocation-legal s p m k d (registryAt s (
 all-more : {X : Type 0} (p : X → Bool) (l : List X) (x : X) → all p l ≡ true → p x ≡ true → all p (l ++ (x ∷ [])) ≡ true
 all-more p l x h e = all-snoc p l x ∙ rw (h, e)
 
-pub keeps-newRegistry : (s : Ledger) (g : Registry) → Keeps s → NewRegistry s g → Keeps (changed s (newRegistry g))
-keeps-newRegistry s g k n =
+pub keeps-newRegistry : (s : Ledger) (q : Request) (g : Registry) → Keeps s → NewRegistry s q g → Keeps (changed s (newRegistry g))
+keeps-newRegistry s q g k n =
     let e : map idOf (s .registries ++ (heldNow g ∷ [])) ≡ idsOf s ++ (g .id ∷ []) = map-append idOf (s .registries) (heldNow g ∷ []) in
     record
     { few-registries = omega (arith, n .room); all-slots = k .all-slots; few-rows = k .few-rows; layouts = all-more keepsLayout (s .registries) (heldNow g) (k .layouts) refl; row-layouts = k .row-layouts; ids = rw e (distinct-append eqSaid said-test (idsOf s) (g .id) (k .ids) (has-find idOf eqSaid (g .id) (s .registries) ∙ rw (n .absent))); keys = k .keys; homes = rw e (all-weaker (hasRegistry (idsOf s)) (hasRegistry (idsOf s ++ (g .id ∷ []))) (s .rows) (λ w h. has-more eqSaid said-test (w .registry) (g .id) (idsOf s) h) (k .homes)); low = k .low; ruled = all-more keepsRules (s .registries) (heldNow g) (k .ruled) (n .ruled) }
@@ -205,7 +210,7 @@ keeps-setRow s q p w k n =
 
 pub keeps-changed : (s : Ledger) (q : Request) (e : Effect) → Keeps s → Legal s q e → Keeps (changed s e)
 keeps-changed s q (refuse r) k n = k
-keeps-changed s q (newRegistry g) k n = keeps-newRegistry s g k n
+keeps-changed s q (newRegistry g) k n = keeps-newRegistry s q g k n
 keeps-changed s q (setRegistry id g) k n = keeps-setRegistry s q id g k n
 keeps-changed s q (newRow w) k n = keeps-newRow s q w k n
 keeps-changed s q (setRow p w) k n = keeps-setRow s q p w k n

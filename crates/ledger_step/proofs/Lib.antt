@@ -1,9 +1,12 @@
 pub mod Cells
 pub mod Changes
 pub mod Lacking
+pub mod Locality
 pub mod NewStates
 pub mod Places
+pub mod ReadsFixed
 pub mod Rules
 pub mod Runs
 pub mod StepSound
 pub mod TableLaws
+pub mod TwoOrders
