@@ -24,7 +24,7 @@ use Rattle.registry_laws.specs.Pairs.{Pair, keyOf}
 use Rattle.registry_laws.specs.States.{OneRegistry}
 use Rattle.ledger_step.specs.Tables.{find, put}
 use Rattle.ledger_step.specs.Ledgers.{Held, Ledger, idOf, eqPair, idsOf, registryAt, rowAt}
-use Rattle.ledger_step.specs.Steps.{Request, requestOf, Effect, afterFold, withRoom, rotationEffect, issueEffect, revocationEffect, effectOf, effect, answerOf, heldNow, changed}
+use Rattle.ledger_step.specs.Steps.{Request, requestOf, Effect, afterFold, withRoom, rotationEffect, issueEffect, revocationEffect, effectOf, effect, answerOf, heldNow, changed, stepOf}
 use Rattle.ledger_step.specs.Steps.Request.{nothing, inception, rotation, issue, revocation}
 use Rattle.ledger_step.specs.Steps.Effect.{refuse, newRegistry, setRegistry, newRow, setRow}
 use Rattle.ledger_step.specs.OrderFreedom.{resultOf, nextOf, resultAt, Class, classBy, classOf, takesHead}
@@ -190,6 +190,7 @@ module _ (l : Ledger) (news : List Pair) where
       acts s (requestOf a) (f .kept) ∙ same-effect s t (requestOf a) f g (p .0) h ∙ sym (acts t (requestOf a) (g .kept))
 
   pub local : Local nextOf resultAt classOf cell Fine Allowed
+  unfolding stepOf
   local = record {
     keeps = λ s a f p. fine-changed s (requestOf a) (effect s (requestOf a)) f (p .0) (legal s a f p);
     other = λ s a c f p d. other-cell s (requestOf a) (effect s (requestOf a)) c (p .0) (legal s a f p) d;

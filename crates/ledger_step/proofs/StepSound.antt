@@ -17,6 +17,7 @@ acts s q k = rw (whole s k)
 
 -- From a ledger that keeps the reading rules a call, accepted or refused, leaves one that keeps them.
 pub step-sound : (l : Ledger) (s : List ℕ) → Bytes s → sound l ≡ true → sound (stepOf l s .ledger) ≡ true
+unfolding stepOf
 step-sound l s b h =
     let k = parts l h in
     let q = requestOf s in

@@ -17,7 +17,7 @@ use Rattle.registry_error.specs.declared.error.RegistryRejection.the-variants.{
 use Rattle.registry_laws.specs.Pairs.{Pair, keyOf}
 use Rattle.ledger_step.specs.Tables.{has}
 use Rattle.ledger_step.specs.Ledgers.{Ledger, idOf, eqPair, rowAt, sound, lookUp}
-use Rattle.ledger_step.specs.Steps.{Request, requestOf, effect}
+use Rattle.ledger_step.specs.Steps.{Request, requestOf, effect, stepOf}
 use Rattle.ledger_step.specs.Steps.Request.{nothing, inception, rotation, issue, revocation}
 use Rattle.ledger_step.specs.Steps.Effect.{refuse}
 use Rattle.ledger_step.specs.Orders.{Each, Matched, KeepsOrder}
@@ -105,9 +105,11 @@ module _ (l : Ledger) (broken : sound l ≡ false) where
   refused q = rw broken
 
   still : (s : List ℕ) → nextOf l s ≡ l
+  unfolding stepOf
   still s = rw (refused (requestOf s))
 
   says : (s : List ℕ) → resultAt l s ≡ resultOf (Rejected Malformed)
+  unfolding stepOf
   says s = rw (refused (requestOf s))
 
   stays : (xs : List (List ℕ)) → endOf l xs ≡ l

@@ -133,5 +133,5 @@ pub record Step : Type 0 where
 abbrev pub stepBy : Ledger → Effect → Step
 stepBy l e = record { answer = answerOf e; ledger = changed l e }
 
-abbrev pub stepOf : Ledger → List ℕ → Step
+unfoldable pub stepOf : Ledger → List ℕ → Step
 stepOf l s = stepBy l (effect l (requestOf s))
