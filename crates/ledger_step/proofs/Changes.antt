@@ -1,33 +1,30 @@
 -- What an attempt comes to in a sound ledger.
---     Read, request-read   what bytes say of the request that they hold
+--     Read, request-read   what is known of a request that was read
 --     Legal, effect-legal  every change is to the place that the attempt names, and of a state that the reading rules accept
 --     keeps-changed        so the ledger with the change made keeps the rules
-use Prim.Native.Nat.{ℕ, _<_, _≤_, _+_}
-use mathlib.Core.Path.{_≡_, refl, sym, ap, _∙_}
+use Prim.Native.Nat.{ℕ, _<_}
+use mathlib.Core.Path.{_≡_, refl, sym, ap, _∙_, subst}
 use mathlib.Core.Bool.{Bool, true, false, cond}
 use mathlib.Core.Option.{Option, none, some}
 use mathlib.Core.List.{List, [], _∷_, _++_, map, map-append}
 use native.Mathlib.Omega.{arith}
 use borrow.Author.Tests.{ltb-true}
 use lib.Dec.{ltb}
-use Rattle.laws.specs.Number.{Bytes}
-use Rattle.cesr.specs.Primitives.{eqSaid}
+use Rattle.cesr.specs.Primitives.{eqSaid, isSaid}
 use Rattle.cesr.specs.declared.primitive.Said.{Said}
 use Rattle.events_tel.specs.TelEvents.{Event}
 use Rattle.events_tel.specs.TelEvents.Event.{vcp, vrt, iss, rev, bis, brv}
-use Rattle.codec.specs.Layout.{all, goodEvent}
+use Rattle.codec.specs.Layout.{all}
 use Rattle.codec.proofs.CodesList.{all-snoc}
 use Rattle.registry_state.specs.States.{Registry, wellCredential}
 use Rattle.registry_state.specs.declared.state.CredentialState.{CredentialState}
 use Rattle.registry_wire.specs.Attempts.{Message, Decoded, decodeOf}
 use Rattle.registry_wire.specs.Attempts.Decoded.{malformed, decoded}
-use Rattle.registry_wire.proofs.CodesAttempt.{decodes}
 use Rattle.registry_error.specs.Answers.{accepts}
 use Rattle.registry_error.specs.declared.error.Answer.{Answer}
 use Rattle.registry_error.specs.declared.error.Answer.the-variants.{Accepted, Rejected}
 use Rattle.registry_error.specs.declared.error.RegistryRejection.the-variants.{NoRoom}
 use Rattle.registry.specs.RegistryFolds as R
-use Rattle.registry.proofs.RegistryLaws.{good-event}
 use Rattle.registry_credential_state.specs.CredentialFolds as C
 use Rattle.registry_credential_state.specs.CredentialFolds.{saidOf}
 use Rattle.registry_laws.specs.Pairs.{Pair, pairOf, pairIn, keyOf}
@@ -38,43 +35,44 @@ use Rattle.registry_laws.proofs.Rotations.{rotation-keeps, rotation-sound}
 use Rattle.registry_laws.proofs.Issues.{issue-names}
 use Rattle.registry_laws.proofs.Revocations.{revocation-keeps}
 use Rattle.ledger_step.specs.Tables.{has, put}
-use Rattle.ledger_step.specs.Ledgers.{Held, Ledger, idOf, eqPair, idsOf, registryAt, rowAt, keepsLayout, keepsRules, hasRegistry, zeroOrOne, sound}
-use Rattle.ledger_step.specs.Steps.{Request, revocationOf, eventRequest, decodedRequest, requestOf, Effect, afterFold, withRoom, inceptionEffect, rotationEffect, issueEffect, revocationEffect, effectOf, effect, heldNow, changed, stepOf}
+use Rattle.ledger_step.specs.Ledgers.{Held, Ledger, idOf, eqPair, idsOf, registryAt, rowAt, keepsLayout, keepsRules, hasRegistry, zeroOrOne}
+use Rattle.ledger_step.specs.Steps.{Request, revocationOf, eventRequest, decodedRequest, requestOf, Effect, afterFold, withRoom, inceptionEffect, rotationEffect, issueEffect, revocationEffect, effectOf, heldNow, changed}
 use Rattle.ledger_step.specs.Steps.Request.{nothing, inception, rotation, issue, revocation}
 use Rattle.ledger_step.specs.Steps.Effect.{refuse, newRegistry, setRegistry, newRow, setRow}
-use Rattle.ledger_step.specs.OrderFreedom.{Class, classBy}
+use Rattle.ledger_step.specs.OrderFreedom.{classBy}
 use Rattle.ledger_step.specs.OrderFreedom.Class.{rotationsOf, attemptsOn}
 use Rattle.ledger_step.proofs.TableLaws.{find-key, has-find, all-find, all-put, map-put, all-weaker, has-more, distinct-append}
 use Rattle.ledger_step.proofs.Rules.{said-test, pair-test, Keeps}
+use Rattle.ledger_step.proofs.ReadLetters.{Lettered, event-lettered}
 use Rattle.ledger_step.proofs.NewStates.{inception-id, issue-well, issue-low, revocation-well, revocation-low}
 
--- what a request that was read says: its message is within the limits, and the names are the message's
+-- what a request that was read says: the names are the message's, and what a row takes of the event has its letters
 abbrev pub Read : Request → Type 0
 Read (nothing r) = Unit {0}
 Read (inception id m) = saidOf (m .event) ≡ id
 Read (rotation id m) = Unit {0}
-Read (issue k m) = (pairOf (m .event) ≡ k ∷ []) × (goodEvent (m .event) ≡ true)
-Read (revocation k m) = goodEvent (m .event) ≡ true
+Read (issue k m) = (pairOf (m .event) ≡ k ∷ []) × Lettered (m .event)
+Read (revocation k m) = isSaid (saidOf (m .event) .0) ≡ true
 
-event-read : (e : Event) (m : Message) → m .event ≡ e → goodEvent e ≡ true → Read (eventRequest e m)
+event-read : (e : Event) (m : Message) → m .event ≡ e → Lettered e → Read (eventRequest e m)
 event-read (vcp said issuer toad configs backers) m q h = ap saidOf q
 event-read (vrt said registry prior sn toad cuts additions) m q h = tt
-event-read (iss said credential registry) m q h = (ap pairOf q, ap goodEvent q ∙ h)
-event-read (rev said credential registry prior) m q h = ap goodEvent q ∙ h
-event-read (bis said credential registry seal) m q h = (ap pairOf q, ap goodEvent q ∙ h)
+event-read (iss said credential registry) m q h = (ap pairOf q, subst Lettered (sym q) h)
+event-read (rev said credential registry prior) m q h = rw q h
+event-read (bis said credential registry seal) m q h = (ap pairOf q, subst Lettered (sym q) h)
 event-read (brv said credential prior seal) m q h = go (pairIn seal credential)
   where
     go : (l : List Pair) → Read (revocationOf l m)
     go [] = tt
-    go (k ∷ l) = ap goodEvent q ∙ h
+    go (k ∷ l) = rw q h
 
-pub request-read : (s : List ℕ) → Bytes s → Read (requestOf s)
+pub request-read : (s : List ℕ) → Read (requestOf s)
 unfolding requestOf
-request-read s b = go (decodeOf s) refl
+request-read s = go (decodeOf s) refl
   where
     go : (d : Decoded) → decodeOf s ≡ d → Read (decodedRequest d)
     go malformed e = tt
-    go (decoded m) e = event-read (m .event) m refl (good-event m (decodes s m b .0 e .1))
+    go (decoded m) e = event-read (m .event) m refl (event-lettered s m e)
 
 pub record NewRegistry (s : Ledger) (q : Request) (g : Registry) : Type 0 where
   pub message : Message
@@ -184,25 +182,25 @@ effect-legal s (revocation p m) k d = revocation-legal s p m k d (registryAt s (
 all-more : {X : Type 0} (p : X → Bool) (l : List X) (x : X) → all p l ≡ true → p x ≡ true → all p (l ++ (x ∷ [])) ≡ true
 all-more p l x h e = all-snoc p l x ∙ rw (h, e)
 
-pub keeps-newRegistry : (s : Ledger) (q : Request) (g : Registry) → Keeps s → NewRegistry s q g → Keeps (changed s (newRegistry g))
+keeps-newRegistry : (s : Ledger) (q : Request) (g : Registry) → Keeps s → NewRegistry s q g → Keeps (changed s (newRegistry g))
 keeps-newRegistry s q g k n =
     let e : map idOf (s .registries ++ (heldNow g ∷ [])) ≡ idsOf s ++ (g .id ∷ []) = map-append idOf (s .registries) (heldNow g ∷ []) in
     record
     { few-registries = omega (arith, n .room); all-slots = k .all-slots; few-rows = k .few-rows; layouts = all-more keepsLayout (s .registries) (heldNow g) (k .layouts) refl; row-layouts = k .row-layouts; ids = rw e (distinct-append eqSaid said-test (idsOf s) (g .id) (k .ids) (has-find idOf eqSaid (g .id) (s .registries) ∙ rw (n .absent))); keys = k .keys; homes = rw e (all-weaker (hasRegistry (idsOf s)) (hasRegistry (idsOf s ++ (g .id ∷ []))) (s .rows) (λ w h. has-more eqSaid said-test (w .registry) (g .id) (idsOf s) h) (k .homes)); low = k .low; ruled = all-more keepsRules (s .registries) (heldNow g) (k .ruled) (n .ruled) }
 
-pub keeps-setRegistry : (s : Ledger) (q : Request) (id : Said) (g : Registry) → Keeps s → SetRegistry s q id g → Keeps (changed s (setRegistry id g))
+keeps-setRegistry : (s : Ledger) (q : Request) (id : Said) (g : Registry) → Keeps s → SetRegistry s q id g → Keeps (changed s (setRegistry id g))
 keeps-setRegistry s q id g k n =
     let e : map idOf (put idOf eqSaid id (heldNow g) (s .registries)) ≡ idsOf s = map-put idOf eqSaid idOf id (heldNow g) (n .old) (s .registries) (n .there) (n .one .id) in
     record
     { few-registries = k .few-registries; all-slots = k .all-slots; few-rows = k .few-rows; layouts = all-put idOf eqSaid keepsLayout id (heldNow g) (s .registries) (k .layouts) refl; row-layouts = k .row-layouts; ids = rw e (k .ids); keys = k .keys; homes = rw e (k .homes); low = k .low; ruled = all-put idOf eqSaid keepsRules id (heldNow g) (s .registries) (k .ruled) (n .ruled) }
 
-pub keeps-newRow : (s : Ledger) (q : Request) (w : CredentialState) → Keeps s → NewRow s q w → Keeps (changed s (newRow w))
+keeps-newRow : (s : Ledger) (q : Request) (w : CredentialState) → Keeps s → NewRow s q w → Keeps (changed s (newRow w))
 keeps-newRow s q w k n =
     let e : map keyOf (s .rows ++ (w ∷ [])) ≡ map keyOf (s .rows) ++ (keyOf w ∷ []) = map-append keyOf (s .rows) (w ∷ []) in
     record
     { few-registries = k .few-registries; all-slots = k .all-slots; few-rows = omega (arith, n .room); layouts = k .layouts; row-layouts = all-more wellCredential (s .rows) w (k .row-layouts) (n .well); ids = k .ids; keys = rw e (distinct-append eqPair pair-test (map keyOf (s .rows)) (keyOf w) (k .keys) (has-find keyOf eqPair (keyOf w) (s .rows) ∙ rw (n .absent))); homes = all-more (hasRegistry (idsOf s)) (s .rows) w (k .homes) (n .home); low = all-more zeroOrOne (s .rows) w (k .low) (n .low); ruled = k .ruled }
 
-pub keeps-setRow : (s : Ledger) (q : Request) (p : Pair) (w : CredentialState) → Keeps s → SetRow s q p w → Keeps (changed s (setRow p w))
+keeps-setRow : (s : Ledger) (q : Request) (p : Pair) (w : CredentialState) → Keeps s → SetRow s q p w → Keeps (changed s (setRow p w))
 keeps-setRow s q p w k n =
     let e : map keyOf (put keyOf eqPair p w (s .rows)) ≡ map keyOf (s .rows) = map-put keyOf eqPair keyOf p w (n .old) (s .rows) (n .there) (n .key ∙ sym (find-key keyOf eqPair pair-test p (s .rows) (n .old) (n .there))) in
     record

@@ -4,6 +4,7 @@ pub mod Lacking
 pub mod Locality
 pub mod NewStates
 pub mod Places
+pub mod ReadLetters
 pub mod ReadsFixed
 pub mod Rules
 pub mod Runs

@@ -5,26 +5,22 @@
 use Prim.Native.Nat.{ℕ, _+_, _≤_, _<_}
 use mathlib.Core.Path.{_≡_, refl, sym, ap, _∙_, subst}
 use mathlib.Core.Logic.{_≢_}
-use mathlib.Core.Bool.{Bool, false, cond}
+use mathlib.Core.Bool.{false, cond}
 use mathlib.Core.Option.{Option, none, some, Option·none-ne-some, Option·some-ne-none, Option·some-injective, Option·map}
-use mathlib.Core.List.{List, [], _∷_, _++_, map, map-map, List·Memᴰ}
+use mathlib.Core.List.{List, map, map-map, List·Memᴰ}
 use native.Mathlib.Omega.{arith}
 use borrow.Author.Tests.{lt-ltb}
-use lib.Dec.{ltb}
 use Rattle.cesr.specs.Primitives.{eqSaid}
 use Rattle.cesr.specs.declared.primitive.Matter.{Matter}
 use Rattle.cesr.specs.declared.primitive.Said.{Said}
 use Rattle.registry_state.specs.States.{Registry}
 use Rattle.registry_state.specs.declared.state.CredentialState.{CredentialState}
 use Rattle.registry_wire.specs.Attempts.{Message}
-use Rattle.registry_error.specs.declared.error.Answer.{Answer}
-use Rattle.registry_error.specs.declared.error.Answer.the-variants.{Accepted, Rejected}
-use Rattle.registry_credential_state.specs.CredentialFolds as C
 use Rattle.registry_laws.specs.Pairs.{Pair, keyOf}
 use Rattle.registry_laws.specs.States.{OneRegistry}
 use Rattle.ledger_step.specs.Tables.{find, put}
 use Rattle.ledger_step.specs.Ledgers.{Held, Ledger, idOf, eqPair, idsOf, registryAt, rowAt}
-use Rattle.ledger_step.specs.Steps.{Request, requestOf, Effect, afterFold, withRoom, rotationEffect, issueEffect, revocationEffect, effectOf, effect, answerOf, heldNow, changed, stepOf}
+use Rattle.ledger_step.specs.Steps.{Request, requestOf, Effect, rotationEffect, issueEffect, revocationEffect, effectOf, effect, answerOf, heldNow, changed, stepOf}
 use Rattle.ledger_step.specs.Steps.Request.{nothing, inception, rotation, issue, revocation}
 use Rattle.ledger_step.specs.Steps.Effect.{refuse, newRegistry, setRegistry, newRow, setRow}
 use Rattle.ledger_step.specs.OrderFreedom.{resultOf, nextOf, resultAt, Class, classBy, classOf, takesHead}
@@ -33,7 +29,7 @@ use Rattle.ledger_step.proofs.Cells.{Local}
 use Rattle.ledger_step.proofs.TableLaws.{over, behind, over-else, over-none, behind-else, behind-none, find-append, find-key, find-put, map-put, find-map}
 use Rattle.ledger_step.proofs.Lacking.{lacking, lacking-one, lacking-append, lacking-put}
 use Rattle.ledger_step.proofs.Rules.{said-test, pair-test, Keeps}
-use Rattle.ledger_step.proofs.Changes.{Read, NewRegistry, SetRegistry, NewRow, SetRow, Legal, effect-legal, keeps-changed}
+use Rattle.ledger_step.proofs.Changes.{Read, NewRegistry, SetRegistry, Legal, effect-legal, keeps-changed}
 use Rattle.ledger_step.proofs.ReadsFixed.{issue-fixed, revocation-fixed}
 use Rattle.ledger_step.proofs.StepSound.{acts}
 

@@ -11,7 +11,6 @@ use Rattle.cesr.specs.declared.primitive.Said.{Said}
 use Rattle.cesr.proofs.Matters.{said-eq}
 use Rattle.events_tel.specs.TelEvents.{Event}
 use Rattle.events_tel.specs.TelEvents.Event.{vcp, vrt, iss, rev, bis, brv}
-use Rattle.codec.specs.Layout.{isMatter, goodSaid, goodIdentifier, goodToad, goodSn, goodConfigs, goodPrefixes, goodSeal, goodEvent}
 use Rattle.registry_state.specs.States.{Registry, wellCredential}
 use Rattle.registry_state.specs.declared.state.CredentialState.{CredentialState}
 use Rattle.registry_wire.specs.Attempts.{Message}
@@ -25,6 +24,7 @@ use Rattle.registry_credential_state.specs.CredentialFolds.{saidOf}
 use Rattle.registry_laws.proofs.Chains.{all-accept}
 use Rattle.registry_laws.proofs.Issues.{issue-names}
 use Rattle.ledger_step.specs.Ledgers.{zeroOrOne}
+use Rattle.ledger_step.proofs.ReadLetters.{Lettered}
 
 event-id : (e : Event) (m : Message) → accepts (R.inceptEvent e m) ≡ true → R.incepted e .id ≡ saidOf e
 event-id (vcp said issuer toad configs backers) m h = refl
@@ -38,44 +38,22 @@ pub inception-id : (m : Message) → accepts (R.inceptMessage m .answer) ≡ tru
 unfolding R.inceptMessage R.inceptAnswer
 inception-id m h = rw h (event-id (m .event) m (or-second (issuerKind (m .evidence)) (R.inceptEvent (m .event) m) h))
 
-letter : (d : Said) → goodSaid d ≡ true → isSaid (d .0) ≡ true
-unfolding goodSaid
-letter d h = and-left (isSaid (d .0)) (isMatter (d .0)) h
-
-said-letter : (e : Event) → goodEvent e ≡ true → isSaid (saidOf e .0) ≡ true
-said-letter (vcp said issuer toad configs backers) h =
-    letter said (and-left (goodSaid said) (goodIdentifier issuer && (goodToad toad && (goodConfigs configs && goodPrefixes backers))) h)
-said-letter (vrt said registry prior sn toad cuts additions) h =
-    letter said (and-left (goodSaid said) (goodSaid registry && (goodSaid prior && (goodSn sn && (goodToad toad && (goodPrefixes cuts && goodPrefixes additions))))) h)
-said-letter (iss said credential registry) h = letter said (and-left (goodSaid said) (goodSaid credential && goodSaid registry) h)
-said-letter (rev said credential registry prior) h =
-    letter said (and-left (goodSaid said) (goodSaid credential && (goodSaid registry && goodSaid prior)) h)
-said-letter (bis said credential registry seal) h =
-    letter said (and-left (goodSaid said) (goodSaid credential && (goodSaid registry && goodSeal seal)) h)
-said-letter (brv said credential prior seal) h =
-    letter said (and-left (goodSaid said) (goodSaid credential && (goodSaid prior && goodSeal seal)) h)
-
 -- the state of an issue has the letters of its event, where the event names the registry
-issued-well : (id said credential registry : Said) → goodSaid said ≡ true → goodSaid credential ≡ true → goodSaid registry ≡ true → accepts (acceptIf (eqSaid registry id) InconsistentRegistry) ≡ true → wellCredential (C.issued id (iss said credential registry)) ≡ true
+issued-well : (id said credential registry : Said) → Lettered (iss said credential registry) → accepts (acceptIf (eqSaid registry id) InconsistentRegistry) ≡ true → wellCredential (C.issued id (iss said credential registry)) ≡ true
 unfolding wellCredential
-issued-well id said credential registry a b c h =
-    let same = said-eq registry id (passed (eqSaid registry id) InconsistentRegistry h) in
-    rw (← same, letter registry c, letter credential b, letter said a)
+issued-well id said credential registry k h =
+    rw (← said-eq registry id (passed (eqSaid registry id) InconsistentRegistry h), k .2, k .1, k .0)
 
-event-well : (g : Registry) (e : Event) (m : Message) → goodEvent e ≡ true → accepts (C.inceptEvent g e m) ≡ true → wellCredential (C.issued (g .id) e) ≡ true
+event-well : (g : Registry) (e : Event) (m : Message) → Lettered e → accepts (C.inceptEvent g e m) ≡ true → wellCredential (C.issued (g .id) e) ≡ true
 unfolding C.issAnswer C.bisAnswer
 event-well g (vcp said issuer toad configs backers) m k h = absurd (false≢true h)
 event-well g (vrt said registry prior sn toad cuts additions) m k h = absurd (false≢true h)
-event-well g (iss said credential registry) m k h =
-    let rest = and-right (goodSaid said) (goodSaid credential && goodSaid registry) k in
-    issued-well (g .id) said credential registry (and-left (goodSaid said) (goodSaid credential && goodSaid registry) k) (and-left (goodSaid credential) (goodSaid registry) rest) (and-right (goodSaid credential) (goodSaid registry) rest) (all-accept _ h .0)
+event-well g (iss said credential registry) m k h = issued-well (g .id) said credential registry k (all-accept _ h .0)
 event-well g (rev said credential registry prior) m k h = absurd (false≢true h)
-event-well g (bis said credential registry seal) m k h =
-    let rest = and-right (goodSaid said) (goodSaid credential && (goodSaid registry && goodSeal seal)) k in
-    issued-well (g .id) said credential registry (and-left (goodSaid said) (goodSaid credential && (goodSaid registry && goodSeal seal)) k) (and-left (goodSaid credential) (goodSaid registry && goodSeal seal) rest) (and-left (goodSaid registry) (goodSeal seal) (and-right (goodSaid credential) (goodSaid registry && goodSeal seal) rest)) (all-accept _ h .0)
+event-well g (bis said credential registry seal) m k h = issued-well (g .id) said credential registry k (all-accept _ h .0)
 event-well g (brv said credential prior seal) m k h = absurd (false≢true h)
 
-pub issue-well : (g : Registry) (m : Message) → goodEvent (m .event) ≡ true → accepts (C.inceptMessage g m .answer) ≡ true → wellCredential (C.inceptMessage g m .state) ≡ true
+pub issue-well : (g : Registry) (m : Message) → Lettered (m .event) → accepts (C.inceptMessage g m .answer) ≡ true → wellCredential (C.inceptMessage g m .state) ≡ true
 unfolding C.inceptMessage
 issue-well g m k h = rw h (event-well g (m .event) m k h)
 
@@ -83,7 +61,7 @@ pub issue-low : (g : Registry) (m : Message) → accepts (C.inceptMessage g m .a
 unfolding value
 issue-low g m h = rw (issue-names g m h .1)
 
-pub revocation-well : (g : Registry) (w : CredentialState) (m : Message) → goodEvent (m .event) ≡ true → wellCredential w ≡ true → wellCredential (C.ingestMessage g w m .state) ≡ true
+pub revocation-well : (g : Registry) (w : CredentialState) (m : Message) → isSaid (saidOf (m .event) .0) ≡ true → wellCredential w ≡ true → wellCredential (C.ingestMessage g w m .state) ≡ true
 unfolding C.ingestMessage wellCredential
 revocation-well g w m k h = go (accepts (C.ingestAnswer g w m))
   where
@@ -92,7 +70,7 @@ revocation-well g w m k h = go (accepts (C.ingestAnswer g w m))
 
     go : (t : Bool) → wellCredential (cond t (C.revoked w (m .event)) w) ≡ true
     go true =
-        rw (and-left (isSaid (w .registry .0)) (isSaid (w .credential .0) && isSaid (w .head .0)) h, and-left (isSaid (w .credential .0)) (isSaid (w .head .0)) rest, said-letter (m .event) k)
+        rw (and-left (isSaid (w .registry .0)) (isSaid (w .credential .0) && isSaid (w .head .0)) h, and-left (isSaid (w .credential .0)) (isSaid (w .head .0)) rest, k)
     go false = h
 
 pub revocation-low : (g : Registry) (w : CredentialState) (m : Message) → zeroOrOne w ≡ true → zeroOrOne (C.ingestMessage g w m .state) ≡ true

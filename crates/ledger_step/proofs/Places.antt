@@ -3,7 +3,7 @@
 --     from-at, each-other  what holds of one of two matched lists holds of the other
 use Prim.Native.Nat.{ℕ, zero, suc, _<_, suc-le-suc}
 use mathlib.Core.Path.{_≡_, refl, sym, _∙_}
-use mathlib.Core.Option.{Option, some, Option·none-ne-some}
+use mathlib.Core.Option.{some, Option·none-ne-some}
 use mathlib.Core.List.{List, [], _∷_}
 use native.Mathlib.Nat.{not-suc-le-zero, le-of-suc-le-suc, zero-lt-suc}
 use lib.ListN.{length, getElem?}

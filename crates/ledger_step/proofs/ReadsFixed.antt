@@ -2,7 +2,7 @@
 --     issue-fixed, revocation-fixed
 use mathlib.Core.Path.{_≡_, refl}
 use mathlib.Core.Logic.{_≢_}
-use mathlib.Core.Bool.{Bool, true, false, cond, true≢false}
+use mathlib.Core.Bool.{false, true≢false}
 use Rattle.events_tel.specs.TelEvents.{Event}
 use Rattle.events_tel.specs.TelEvents.Event.{vcp, vrt, iss, rev, bis, brv}
 use Rattle.registry_state.specs.States.{Registry}

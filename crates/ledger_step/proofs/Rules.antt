@@ -1,19 +1,19 @@
 -- The reading rules, one by one, and equality of saids and pairs.
 --     said-test, pair-test   the tests of equality are
 --     Keeps, parts, whole    a sound ledger keeps each rule, and one that keeps them all is sound
-use Prim.Native.Nat.{ℕ, _≤_}
-use mathlib.Core.Path.{_≡_, refl}
-use mathlib.Core.Bool.{Bool, true, _&&_}
+use Prim.Native.Nat.{_≤_}
+use mathlib.Core.Path.{_≡_}
+use mathlib.Core.Bool.{Bool, true}
 use mathlib.Core.List.{List, [], _∷_, map}
 use borrow.Author.Tests.{leb-true, le-leb}
-use lib.Dec.{eqb, leb}
+use lib.Dec.{eqb}
 use Rattle.laws.proofs.Tests.{and-left, and-right}
 use Rattle.cesr.specs.Primitives.{eqSaid}
 use Rattle.cesr.proofs.Matters.{eq-said, said-eq}
 use Rattle.codec.specs.Layout.{all}
 use Rattle.registry_state.specs.States.{wellCredential}
 use Rattle.registry_verification.specs.Starred.{All}
-use Rattle.registry_laws.specs.Pairs.{Pair, keyOf}
+use Rattle.registry_laws.specs.Pairs.{keyOf}
 use Rattle.ledger_step.specs.Tables.{distinct}
 use Rattle.ledger_step.specs.Ledgers.{Ledger, eqPair, idsOf, holds, keepsLayout, keepsRules, hasRegistry, zeroOrOne, rules, sound}
 use Rattle.ledger_step.proofs.TableLaws.{Tests}

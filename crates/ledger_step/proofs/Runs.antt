@@ -4,7 +4,7 @@
 --     idle-answers, idle-final    where every call answers the same and changes nothing
 use Prim.Native.Nat.{ℕ, zero, suc, _<_}
 use mathlib.Core.Path.{_≡_, refl, ap}
-use mathlib.Core.Option.{Option, some, Option·none-ne-some, Option·some-injective}
+use mathlib.Core.Option.{some, Option·none-ne-some, Option·some-injective}
 use mathlib.Core.List.{List, [], _∷_}
 use native.Mathlib.Nat.{not-suc-le-zero, le-of-suc-le-suc}
 use lib.ListN.{length, getElem?}

@@ -5,7 +5,6 @@ use Prim.Native.Nat.{ℕ}
 use mathlib.Core.Path.{_≡_}
 use mathlib.Core.Bool.{true}
 use mathlib.Core.List.{List}
-use Rattle.laws.specs.Number.{Bytes}
 use Rattle.ledger_step.specs.Ledgers.{Ledger, sound}
 use Rattle.ledger_step.specs.Steps.{Request, requestOf, effectOf, effect, changed, stepOf}
 use Rattle.ledger_step.proofs.Rules.{Keeps, parts, whole}
@@ -16,9 +15,9 @@ unfolding effect
 acts s q k = rw (whole s k)
 
 -- From a ledger that keeps the reading rules a call, accepted or refused, leaves one that keeps them.
-pub step-sound : (l : Ledger) (s : List ℕ) → Bytes s → sound l ≡ true → sound (stepOf l s .ledger) ≡ true
+pub step-sound : (l : Ledger) (s : List ℕ) → sound l ≡ true → sound (stepOf l s .ledger) ≡ true
 unfolding stepOf
-step-sound l s b h =
+step-sound l s h =
     let k = parts l h in
     let q = requestOf s in
-    rw (acts l q k) (whole (changed l (effectOf l q)) (keeps-changed l q (effectOf l q) k (effect-legal l q k (request-read s b))))
+    rw (acts l q k) (whole (changed l (effectOf l q)) (keeps-changed l q (effectOf l q) k (effect-legal l q k (request-read s))))

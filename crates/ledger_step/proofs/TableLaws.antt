@@ -1,13 +1,13 @@
 -- Laws of tables: what is found after a replacement or behind a new last element, and what both keep.
---     find-put, find-append, find-key        finding
---     length-put, map-put, all-put, all-find what a replacement keeps, and what holds of what is found
---     distinct-append, has-find              keys
---     find-map                               finding through a map that keeps the keys
---     table-same                             a table is known by its keys and by what is found
-use Prim.Native.Nat.{ℕ, suc}
+--     find-put, find-append, find-key         finding
+--     map-put, all-put, all-find              what a replacement keeps, and what holds of what is found
+--     distinct-append, has-more, has-find     keys
+--     find-map                                finding through a map that keeps the keys
+--     table-same                              a table is known by its keys and by what is found
+use Prim.Native.Nat.{suc}
 use mathlib.Core.Path.{_≡_, refl, sym, ap, _∙_}
 use mathlib.Core.Logic.{_≢_}
-use mathlib.Core.Bool.{Bool, true, false, cond, not, _&&_, _||_, true≢false, false≢true}
+use mathlib.Core.Bool.{Bool, true, false, cond, not, _||_, true≢false, false≢true}
 use mathlib.Core.Option.{Option, none, some, Option·none-ne-some, Option·some-ne-none, Option·some-injective, Option·map}
 use mathlib.Core.List.{List, [], _∷_, _++_, map}
 use native.Mathlib.Omega.{arith}
@@ -60,7 +60,7 @@ module _ {X : Type 0} where
   behind-none p none e = refl
   behind-none p (some y) e = absurd (Option·some-ne-none _ e)
 
-  pub found-none : (o : Option X) → found o ≡ false → o ≡ none
+  found-none : (o : Option X) → found o ≡ false → o ≡ none
   found-none none e = refl
   found-none (some x) e = absurd (true≢false e)
 
@@ -102,15 +102,6 @@ all-weaker p q [] w h = refl
 all-weaker p q (x ∷ l) w h = rw (w x (and-left (p x) (all p l) h)) (all-weaker p q l w (and-right (p x) (all p l) h))
 
 module _ {X K : Type 0} (key : X → K) (eq : K → K → Bool) where
-  pub length-put : (k : K) (x : X) (l : List X) → length (put key eq k x l) ≡ length l
-  unfolding put
-  length-put k x [] = refl
-  length-put k x (y ∷ l) = go (eq (key y) k) (length-put k x l)
-    where
-      go : (b : Bool) → length (put key eq k x l) ≡ length l → length (cond b (x ∷ l) (y ∷ put key eq k x l)) ≡ suc (length l)
-      go true ih = refl
-      go false ih = ap suc ih
-
   pub find-append : (k : K) (l : List X) (x : X) → find key eq k (l ++ (x ∷ [])) ≡ behind (find key eq k l) (cond (eq (key x) k) (some x) none)
   unfolding find
   find-append k [] x = refl

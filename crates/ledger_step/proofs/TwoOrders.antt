@@ -9,9 +9,7 @@ use mathlib.Core.List.{List, [], _∷_, List·Memᴰ, List·Memᴰ·head, List·
 use native.Mathlib.Omega.{arith}
 use borrow.Author.Tests.{not-true}
 use lib.ListN.{length, getElem?}
-use Rattle.laws.specs.Number.{Bytes}
 use Rattle.cesr.specs.Primitives.{eqSaid}
-use Rattle.cesr.specs.declared.primitive.Said.{Said}
 use Rattle.registry_error.specs.declared.error.Answer.the-variants.{Rejected}
 use Rattle.registry_error.specs.declared.error.RegistryRejection.the-variants.{Malformed}
 use Rattle.registry_laws.specs.Pairs.{Pair, keyOf}
@@ -21,7 +19,7 @@ use Rattle.ledger_step.specs.Steps.{Request, requestOf, effect, stepOf}
 use Rattle.ledger_step.specs.Steps.Request.{nothing, inception, rotation, issue, revocation}
 use Rattle.ledger_step.specs.Steps.Effect.{refuse}
 use Rattle.ledger_step.specs.Orders.{Each, Matched, KeepsOrder}
-use Rattle.ledger_step.specs.OrderFreedom.{Result, resultOf, nextOf, resultAt, endOf, resultsOf, Class, classOf, takesHead, admittedBy, Admitted, newPairBy, once, newPairs, SameRuns, OrderFree}
+use Rattle.ledger_step.specs.OrderFreedom.{resultOf, nextOf, resultAt, endOf, resultsOf, Class, classOf, takesHead, admittedBy, Admitted, newPairBy, once, newPairs, SameRuns, OrderFree}
 use Rattle.ledger_step.specs.OrderFreedom.Class.{rotationsOf, attemptsOn}
 use Rattle.ledger_step.proofs.Places.{each-other}
 use Rattle.ledger_step.proofs.Runs.{idle-final, idle-answers}
@@ -40,19 +38,19 @@ by-test eq test a b = go (eq a b) refl
     go true e = yes (test .equal a b e)
     go false e = no (λ p. true≢false (sym (test .same a) ∙ ap (eq a) p ∙ e))
 
-class? : Discrete Class
-class? (rotationsOf a) (rotationsOf b) = go (by-test eqSaid said-test a b)
+-- equality behind a constructor
+under : {K C : Type 0} (f : K → C) → ((a b : K) → f a ≡ f b → a ≡ b) → Discrete K → (a b : K) → Dec (f a ≡ f b)
+under f back key? a b = go (key? a b)
   where
-    go : Dec (a ≡ b) → Dec (_≡_ {A = Class} (rotationsOf a) (rotationsOf b))
-    go (yes p) = yes (ap rotationsOf p)
-    go (no q) = no (λ p. q (cc))
+    go : Dec (a ≡ b) → Dec (f a ≡ f b)
+    go (yes p) = yes (ap f p)
+    go (no q) = no (λ p. q (back a b p))
+
+class? : Discrete Class
+class? (rotationsOf a) (rotationsOf b) = under rotationsOf (λ x y e. cc) (by-test eqSaid said-test) a b
 class? (rotationsOf a) (attemptsOn b) = no (λ p. let z : _≡_ {A = ℕ} 0 1 = cc in omega arith)
 class? (attemptsOn b) (rotationsOf a) = no (λ p. let z : _≡_ {A = ℕ} 0 1 = cc in omega arith)
-class? (attemptsOn a) (attemptsOn b) = go (by-test eqPair pair-test a b)
-  where
-    go : Dec (a ≡ b) → Dec (_≡_ {A = Class} (attemptsOn a) (attemptsOn b))
-    go (yes p) = yes (ap attemptsOn p)
-    go (no q) = no (λ p. q (cc))
+class? (attemptsOn a) (attemptsOn b) = under attemptsOn (λ x y e. cc) (by-test eqPair pair-test) a b
 
 -- the new pair of every attempt of a list is one of its new pairs
 
@@ -124,7 +122,7 @@ module _ (l : Ledger) (broken : sound l ≡ false) where
       record
       { results = λ i h. answer xs i h ∙ sym (answer ys (m .to i) (m .to-in i h)); registryCounts = ap (λ (s : Ledger). s .registryCount) e; registries = ap (λ (s : Ledger). s .registries) e; rows = λ k. ap (λ (s : Ledger). rowAt s k) e; lookUps = λ k. ap (λ (s : Ledger). lookUp s k) e }
 
-module _ (l : Ledger) (xs ys : List (List ℕ)) (m : Matched xs ys) (b : Each Bytes xs) (h : Each Admitted xs) (o : KeepsOrder classOf m) (room : l .rowCount + length (newPairs l xs) ≤ 256) (k : Keeps l) where
+module _ (l : Ledger) (xs ys : List (List ℕ)) (m : Matched xs ys) (h : Each Admitted xs) (o : KeepsOrder classOf m) (room : l .rowCount + length (newPairs l xs) ≤ 256) (k : Keeps l) where
   abbrev news : List Pair
   news = newPairs l xs
 
@@ -133,7 +131,7 @@ module _ (l : Ledger) (xs ys : List (List ℕ)) (m : Matched xs ys) (b : Each By
       { kept = k; fixed-kept = refl; count-kept = refl; keys-kept = λ p e. e; room = omega (arith, room, lacking-within keyOf eqPair news (l .rows)) }
 
   allowed : Each (Allowed l news) xs
-  allowed i s e = (permitted l news (requestOf s) (h i s e) (λ p n. named l xs i s p e n), request-read s (b i s e))
+  allowed i s e = (permitted l news (requestOf s) (h i s e) (λ p n. named l xs i s p e n), request-read s)
 
   fineX : Fine l news (endOf l xs)
   fineX = final-fine class? nextOf resultAt classOf cell (Fine l news) (Allowed l news) (local l news) l xs start allowed
@@ -154,8 +152,8 @@ module _ (l : Ledger) (xs ys : List (List ℕ)) (m : Matched xs ys) (b : Each By
 
 -- The claim.
 pub order-free : OrderFree
-order-free l xs ys m b h o room = go (sound l) refl
+order-free l xs ys m h o room = go (sound l) refl
   where
     go : (t : Bool) → sound l ≡ t → SameRuns l xs ys m
-    go true e = sound-runs l xs ys m b h o room (parts l e)
+    go true e = sound-runs l xs ys m h o room (parts l e)
     go false e = broken-runs l e xs ys m

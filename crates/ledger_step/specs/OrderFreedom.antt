@@ -5,11 +5,10 @@ use mathlib.Core.Bool.{Bool, true, false, cond, not}
 use mathlib.Core.Option.{Option, none, some}
 use mathlib.Core.List.{List, [], _∷_}
 use lib.ListN.{length, getElem?}
-use Rattle.laws.specs.Number.{Bytes}
 use Rattle.cesr.specs.declared.primitive.Said.{Said}
 use Rattle.events_tel.specs.TelEvents.{Event}
 use Rattle.events_tel.specs.TelEvents.Event.{vcp, vrt, iss, rev, bis, brv}
-use Rattle.registry_wire.specs.Attempts.{Message, Evidence}
+use Rattle.registry_wire.specs.Attempts.{Evidence}
 use Rattle.registry_wire.specs.Attempts.Evidence.{missing, issuer, backer, backerAt}
 use Rattle.registry_error.specs.Errors.{answerNumber, answerLetter, dispositionOf, awaitedOf, detailsOf}
 use Rattle.registry_error.specs.declared.error.Answer.{Answer}
@@ -52,7 +51,8 @@ endOf l xs = final nextOf l xs
 abbrev pub resultsOf : Ledger → List (List ℕ) → List Result
 resultsOf l xs = answers nextOf resultAt l xs
 
--- what keeps its order: the vrts that name one registry, and the attempts that name one pair
+-- what keeps its order: the vrts that name one registry, and the attempts that name one pair. Malformed bytes, and a brv that names no pair,
+-- are in no class.
 pub data Class : Type 0 where
   rotationsOf : Said → Class
   attemptsOn : Pair → Class
@@ -82,7 +82,7 @@ takesHead (rev said credential registry prior) e = false
 takesHead (bis said credential registry seal) e = isHead e
 takesHead (brv said credential prior seal) e = isHead e
 
--- no vcp, and none that takes the present head as its authority
+-- it is no vcp, and does not take the present head as its authority; malformed bytes, and a brv that names no pair, may stand in the lists
 abbrev pub admittedBy : Request → Bool
 admittedBy (nothing r) = true
 admittedBy (inception id m) = false
@@ -93,7 +93,7 @@ admittedBy (revocation k m) = not (takesHead (m .event) (m .evidence))
 abbrev pub Admitted : List ℕ → Type 0
 Admitted s = admittedBy (requestOf s) ≡ true
 
--- the new pair of an attempt: it is an iss or bis that names the pair, and the starting ledger lacks it
+-- the new pair of an attempt: an iss or bis names it, and the starting ledger lacks it
 abbrev pub newPairBy : Ledger → Request → Option Pair
 newPairBy l (nothing r) = none
 newPairBy l (inception id m) = none
@@ -110,8 +110,8 @@ unfoldable pub newPairs : Ledger → List (List ℕ) → List Pair
 newPairs l [] = []
 newPairs l (s ∷ xs) = once (newPairBy l (requestOf s)) (newPairs l xs)
 
--- what two runs have in common: every attempt's result, at its two places; the registries, place for place; of every key the row or
--- none, and the look-up
+-- What two runs have in common: the result of every attempt, at its two places; the registries, as many, in the same places, with every
+-- field equal; of every key the row, or none in both; the look-up of every key.
 pub record SameRuns (l : Ledger) (xs ys : List (List ℕ)) (m : Matched xs ys) : Type 0 where
   pub results : (i : ℕ) → i < length xs → getElem? (resultsOf l xs) i ≡ getElem? (resultsOf l ys) (m .to i)
   pub registryCounts : endOf l xs .registryCount ≡ endOf l ys .registryCount
@@ -119,12 +119,12 @@ pub record SameRuns (l : Ledger) (xs ys : List (List ℕ)) (m : Matched xs ys) :
   pub rows : (k : Pair) → rowAt (endOf l xs) k ≡ rowAt (endOf l ys) k
   pub lookUps : (k : Pair) → lookUp (endOf l xs) k ≡ lookUp (endOf l ys) k
 
--- From any ledger, with the same attempts in both lists, which are bytes: none a vcp and none by the present head, the order kept within
--- each class, and room for every new pair.
+-- The claim. The ledger may be any, also one that breaks a reading rule (1). The attempts of the one list are matched with those of the
+-- other, place by place (2), and each is admitted (3, 4). The order is kept within each class (5), and the rows of the ledger and the new
+-- pairs are together at most 256 (6).
 abbrev pub OrderFree : Type 0
 OrderFree =
     (l : Ledger) (xs ys : List (List ℕ)) (m : Matched xs ys)
-    → Each Bytes xs
     → Each Admitted xs
     → KeepsOrder classOf m
     → l .rowCount + length (newPairs l xs) ≤ 256

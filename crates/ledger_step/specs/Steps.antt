@@ -1,6 +1,6 @@
 -- A call of the ledger: what an attempt asks, what it comes to, and what it leaves (docs/RULES.md, "Ledger", "Orders", "Next states").
 use Prim.Native.Nat.{ℕ, _+_}
-use mathlib.Core.Bool.{Bool, true, cond}
+use mathlib.Core.Bool.{true, cond}
 use mathlib.Core.Option.{Option, none, some}
 use mathlib.Core.List.{List, [], _∷_, _++_}
 use lib.Dec.{ltb}
