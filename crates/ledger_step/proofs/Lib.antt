@@ -1,0 +1,13 @@
+pub mod Cells
+pub mod Changes
+pub mod Lacking
+pub mod Locality
+pub mod NewStates
+pub mod Places
+pub mod ReadLetters
+pub mod ReadsFixed
+pub mod Rules
+pub mod Runs
+pub mod StepSound
+pub mod TableLaws
+pub mod TwoOrders

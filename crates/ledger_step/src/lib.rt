@@ -1,0 +1,1 @@
+// The ledger's step, as a definition, and its laws: specs/ has the definitions, proofs/ the laws. There is no code here.
