@@ -31,9 +31,10 @@ use Rattle.registry_error.specs.declared.error.Answer.{Answer}
 use Rattle.registry_error.specs.declared.error.Answer.the-variants.{Accepted, Rejected}
 use Rattle.registry_error.specs.declared.error.RegistryRejection.{RegistryRejection}
 use Rattle.registry_error.specs.declared.error.RegistryRejection.the-variants.{Malformed, TooManyBackers, InconsistentRegistry, RotationOnBackerlessRegistry, PriorDigestMismatch}
+use Rattle.registry_authentication.proofs.AnchorUse.{judged-decoded, judged-malformed}
 use Rattle.registry_authentication.specs.Issuers.{issuerKind, authenticateIssuer}
 use Rattle.registry_authentication.specs.Backers.{enoughReceipts}
-use Rattle.registry.specs.RegistryFolds.{thresholdFits, inceptEvent, inceptAnswer, incepted, inceptMessage, inceptOf, vrtBackers, vrtAnswer, ingestEvent, rotated, ingestMessage, ingestOf, Ingested}
+use Rattle.registry.specs.RegistryFolds.{thresholdFits, inceptEvent, inceptAnswer, incepted, inceptMessage, inceptOf, vrtBackers, vrtAnswer, ingestEvent, rotated, ingestMessage, ingestDecoded, ingestOf, Ingested}
 use Rattle.registry_verification.specs.Sequence.{nextSn}
 use Rattle.registry.specs.declared.registry.RegistryOutcome.{RegistryOutcome}
 use Rattle.registry_error.proofs.AnswerLaws.{or-first, or-second, passed}
@@ -155,13 +156,8 @@ ingest-lettered g m l k h = rw h (ingest-lettered-by g (m .event) m l (good-even
 
 pub ingest-decoded : (g : RegistryState) (s : List ℕ) (d : DecodedAttempt) → viewDecoded s d ≡ decodeOf s → wellRegistry g ≡ true → d .ok ≡ true → ingestOf g s ≡ ingestMessage (viewRegistry g) (viewAttempt s (d .attempt))
 unfolding ingestOf
-ingest-decoded g s d e w ok = rw (w, ← e, ok)
-
-malformed-by : (g : RegistryState) (s : List ℕ) (d : DecodedAttempt) (w ok : Bool) → viewDecoded s d ≡ decodeOf s → wellRegistry g ≡ w → d .ok ≡ ok → (w && ok) ≡ false → ingestOf g s ≡ record { answer = Rejected Malformed; state = viewRegistry g }
-unfolding ingestOf
-malformed-by g s d true true e p q z = absurd (false≢true (sym z))
-malformed-by g s d true false e p q z = rw (p, ← e, q)
-malformed-by g s d false ok e p q z = rw p
+ingest-decoded g s d e w ok = judged-decoded (ingestDecoded (viewRegistry g)) _ refl s d e (wellRegistry g) w ok
 
 pub ingest-malformed : (g : RegistryState) (s : List ℕ) (d : DecodedAttempt) → viewDecoded s d ≡ decodeOf s → (wellRegistry g && d .ok) ≡ false → ingestOf g s ≡ record { answer = Rejected Malformed; state = viewRegistry g }
-ingest-malformed g s d e h = malformed-by g s d (wellRegistry g) (d .ok) e refl refl h
+unfolding ingestOf
+ingest-malformed g s d e h = judged-malformed (ingestDecoded (viewRegistry g)) _ refl s d e (wellRegistry g) h

@@ -1,4 +1,5 @@
 -- What folds read of the anchoring events of an attempt that was decoded.
+--     judged-decoded, judged-malformed   what is asked of bytes is asked of the message that was decoded, or refused
 --     anchored-parts   the parts of a decoded attempt are known
 --     none-chosen      an empty part gives way to the other
 --     message-in       the message's anchoring event, in its part of the bytes
@@ -6,7 +7,7 @@
 use Prim.Native.Nat.{ℕ}
 use mathlib.Core.Path.{_≡_, refl, sym, subst, _∙_}
 use mathlib.Core.List.{List, [], _∷_}
-use mathlib.Core.Bool.{Bool, true, false, _&&_}
+use mathlib.Core.Bool.{Bool, true, false, cond, _&&_, false≢true}
 use native.Mathlib.Omega.{arith}
 use borrow.Author.Tests.{ne-eqb, eqb-true}
 use lib.Dec.{eqb, leb}
@@ -17,11 +18,11 @@ use Rattle.cesr.specs.declared.number.Sn.{Sn}
 use Rattle.cesr.specs.declared.primitive.Matter.{Matter}
 use Rattle.cesr.specs.declared.primitive.Said.{Said}
 use Rattle.codec.specs.Layout.{joined, all, goodEvent, goodIdentifier}
-use Rattle.registry_wire.specs.Attempts.{Anchor, anchorBytes, goodAnchors, goodSource, goodEvidence, goodMessage, chosenAnchors, anchorsIn, sourcesIn, evidenceAs, evidenceIn, viewAttempt, viewDecoded, decodeOf, partOf, Holds}
+use Rattle.registry_wire.specs.Attempts.{Anchor, Decoded, anchorBytes, goodAnchors, goodSource, goodEvidence, goodMessage, chosenAnchors, anchorsIn, sourcesIn, evidenceAs, evidenceIn, viewAttempt, viewDecoded, decodeOf, partOf, Holds}
 use Rattle.registry_seals.specs.SignatureSections.{goodSignature}
 use Rattle.registry_seals.specs.SealSections.{chosen}
 use Rattle.registry_wire.specs.Attempts.Evidence.{issuer}
-use Rattle.registry_wire.specs.Attempts.Decoded.{decoded}
+use Rattle.registry_wire.specs.Attempts.Decoded.{malformed, decoded}
 use Rattle.registry_wire.specs.declared.attempt.Source.{Source}
 use Rattle.registry_wire.specs.declared.attempt.Part.{Part}
 use Rattle.registry_wire.specs.declared.attempt.Attempt.{Attempt}
@@ -31,6 +32,19 @@ use Rattle.registry_wire.proofs.CodesAttempt.{decodes}
 use Rattle.registry_error.specs.Answers.{firstOf}
 use Rattle.registry_authentication.specs.Issuers.{Anchored, anchored, anchoredIn, authenticateIssuer, authenticateIn}
 use Rattle.registry_authentication.proofs.AnchorTie.{anchored-in}
+
+-- a call judges decoded bytes where the states that it was handed are well, and refuses else
+module _ {A : Type 0} (f : Decoded → A) (refusal : A) (same : f malformed ≡ refusal) (s : List ℕ) (d : DecodedAttempt) (e : viewDecoded s d ≡ decodeOf s) where
+  pub judged-decoded : (well : Bool) → well ≡ true → d .ok ≡ true → cond well (f (decodeOf s)) refusal ≡ f (decoded (viewAttempt s (d .attempt)))
+  judged-decoded well w ok = rw (w, ← e, ok)
+
+  malformed-by : (well ok : Bool) → d .ok ≡ ok → (well && ok) ≡ false → cond well (f (decodeOf s)) refusal ≡ refusal
+  malformed-by true true q z = absurd (false≢true (sym z))
+  malformed-by true false q z = rw (← e, q) same
+  malformed-by false ok q z = refl
+
+  pub judged-malformed : (well : Bool) → (well && d .ok) ≡ false → cond well (f (decodeOf s)) refusal ≡ refusal
+  judged-malformed well z = malformed-by well (d .ok) refl z
 
 -- a decoded message is within the limits
 pub decoded-good : (s : List ℕ) (r : DecodedAttempt) → Bytes s → viewDecoded s r ≡ decodeOf s → r .ok ≡ true → goodMessage (viewAttempt s (r .attempt)) ≡ true
