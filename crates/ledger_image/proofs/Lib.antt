@@ -1,0 +1,4 @@
+pub mod CodesImage
+pub mod CodesWide
+pub mod ImageLength
+pub mod ImageRounds
