@@ -1,0 +1,6 @@
+-- Facts on numbers that every walk over the rows meets: a row has 136 bytes in memory.
+use Prim.Native.Nat.{ℕ, _*_, _<_, _^_}
+use native.Mathlib.Omega.{arith}
+
+pub offset-fits : {i n : ℕ} → n * 136 < 2 ^ 63 → i < n → i * 136 < 2 ^ 64
+offset-fits room l = omega arith
