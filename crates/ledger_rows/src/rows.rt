@@ -1,8 +1,10 @@
 // Credential rows behind a slice of states. These functions find a key, read a row, store a row and check them all; no other function has to reach into the slice.
+use cesr::primitive::Said;
 use registry_state::state::CredentialState;
 ghost use mathlib.Core.Path.{_≡_};
+ghost use Prim.Native.Nat.{min};
 ghost use lib.ListN.{set};
-ghost use Rattle.ledger_rows.specs.Rows.{rowAt};
+ghost use Rattle.ledger_rows.specs.Rows.{rowAt, hasKey, findAt};
 
 // The row at a place; past the end there is no credential.
 pub fn read_row(rows: &[CredentialState], at: usize) -> CredentialState
@@ -21,4 +23,35 @@ pub fn store_row(rows: &mut [CredentialState], at: usize, w: CredentialState)
     if at < rows.len() {
         rows[at] = w;
     }
+}
+
+fn lesser(a: usize, b: usize) -> usize
+    ensures { λ r. ⌜ r ≡ min a b ⌝ }
+{
+    if a < b {
+        return a;
+    }
+    b
+}
+
+fn has_key(w: CredentialState, registry: Said, credential: Said) -> bool
+    ensures { λ r. ⌜ r ≡ hasKey w registry credential ⌝ }
+{
+    w.registry.same(registry) & w.credential.same(credential)
+}
+
+// The first place among the first `count` rows whose row has the key. Where there is none it answers how many these rows are: the count, or the slice's length where that is less.
+pub fn find_at(rows: &[CredentialState], count: usize, registry: Said, credential: Said) -> usize
+    ensures { λ r. ⌜ r ≡ findAt (now (rows .entry)) count registry credential ⌝ }
+{
+    let n = lesser(count, rows.len());
+    let mut i = 0;
+    while i < n {
+        let row = rows[i];
+        if has_key(row, registry, credential) {
+            return i;
+        }
+        i += 1;
+    }
+    i
 }
