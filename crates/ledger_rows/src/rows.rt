@@ -48,15 +48,15 @@ pub fn find_at(rows: &[CredentialState], count: usize, registry: Said, credentia
     ensures { λ r. ⌜ r ≡ findAt (now (rows .entry)) count registry credential ⌝ }
 {
     let n = lesser(count, rows.len());
-    let mut i = 0;
-    while i < n {
-        let row = rows[i];
+    let mut at = 0;
+    while at < n {
+        let row = rows[at];
         if has_key(row, registry, credential) {
-            return i;
+            return at;
         }
-        i += 1;
+        at += 1;
     }
-    i
+    at
 }
 
 // There are 256 rows, and at most so many of them are in use.
