@@ -37,9 +37,13 @@ fn lesser(a: usize, b: usize) -> usize
     b
 }
 
+// Most rows differ from a key in the first word of the credential, so that is looked at first: the check of all rows compares every two of them.
 fn has_key(w: CredentialState, registry: Said, credential: Said) -> bool
     ensures { λ r. ⌜ r ≡ hasKey w registry credential ⌝ }
 {
+    if w.credential.0.w0 != credential.0.w0 {
+        return false;
+    }
     w.registry.same(registry) & w.credential.same(credential)
 }
 
