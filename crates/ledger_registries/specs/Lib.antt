@@ -1,0 +1,2 @@
+pub mod KeyPlaces
+pub mod Registries

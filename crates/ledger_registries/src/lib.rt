@@ -1,0 +1,2 @@
+// The registries of a ledger (docs/RULES.md, "Ledger", "Reading rules").
+pub mod registries;
