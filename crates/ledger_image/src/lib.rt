@@ -1,1 +1,2 @@
-// The image of a ledger, as a definition, and its laws: specs/ has the definitions, proofs/ the laws. There is no code here.
+// The image of a ledger (docs/RULES.md, "Image"): the counts of its sections in code; specs/ has the image, proofs/ its laws.
+pub mod image;
