@@ -5,7 +5,7 @@ use registry_error::answer::accepts;
 use registry_error::answer::backer_set;
 use registry_state::state::RegistryState;
 ghost use mathlib.Core.Path.{_≡_};
-ghost use mathlib.Core.Bool.{_&&_};
+ghost use mathlib.Core.Bool.{false, _&&_};
 ghost use mathlib.Core.List.{[], map};
 ghost use Prim.Native.Nat.{_≤_};
 ghost use lib.Dec.{ltb};
@@ -80,6 +80,7 @@ impl Registries {
     pub fn store(self, i: usize, g: RegistryState) -> Registries
         ensures list { λ r. ⌜ viewRegistries r ≡ set (viewRegistries self) i (heldOf g) ⌝ }
         ensures count { λ r. ⌜ r .count ≡ self .count ⌝ }
+        ensures kept { λ r. ⌜ (length (viewRegistries self) ≤ i → r ≡ self) ⌝ }
     {
         if i < self.size() {
             let mut m = self;
@@ -95,6 +96,7 @@ impl Registries {
         ensures ok { λ r. ⌜ r .ok ≡ ltb (self .count) 16 ⌝ }
         ensures list { λ r. ⌜ viewRegistries (r .registries) ≡ pushed (self .count) (viewRegistries self) (heldOf g) ⌝ }
         ensures count { λ r. ⌜ r .registries .count ≡ countPushed (self .count) ⌝ }
+        ensures kept { λ r. ⌜ (r .ok ≡ false → r .registries ≡ self) ⌝ }
     {
         let n = self.count;
         if n < 16 {

@@ -1,5 +1,6 @@
 use borrow.Author.Needs.{needs}
-use mathlib.Core.Path.{_≡_, sym, _∙_}
+use mathlib.Core.Path.{_≡_, refl, sym, _∙_}
+use mathlib.Core.Bool.{false≢true}
 use borrow.Author.Tests.{lt-ltb, le-ltb}
 use lib.ListN.{length}
 use Rattle.laws.proofs.Views.{length-mapped}
@@ -26,14 +27,14 @@ returns c =
     let a = c .before .args in
     let n = a .self .count in
     let e = pushed-room n (viewRegistries (a .self)) (heldOf (a .g)) (c .if1 .taken) in
-    (sym (lt-ltb n 16 (c .if1 .taken)), (view-push (a .self) (full (c .before)) (a .g) (c .if1 .taken) ∙ sym (e .0), sym (e .1)))
+    (sym (lt-ltb n 16 (c .if1 .taken)), (view-push (a .self) (full (c .before)) (a .g) (c .if1 .taken) ∙ sym (e .0), (sym (e .1), (λ h. absurd (false≢true (sym h))))))
 
 returns-2 : tie.Need-returns-2
 returns-2 c =
     let a = c .before .args in
     let n = a .self .count in
     let e = pushed-full n (viewRegistries (a .self)) (heldOf (a .g)) (c .if1 .left) in
-    (sym (le-ltb n 16 (c .if1 .left)), (sym (e .0), sym (e .1)))
+    (sym (le-ltb n 16 (c .if1 .left)), (sym (e .0), (sym (e .1), (λ h. refl))))
 
 pub push-spec : {M : Type 1} → statement M
 push-spec = tie.close (tie.spec mul-g element-set-from-g add-m returns returns-2)

@@ -26,12 +26,12 @@ returns : tie.Need-returns
 returns c =
     let b = c .before .before in
     let a = b .args in
-    (view-set (a .self) (full b) (a .i) (a .g) (omega arith), refl)
+    (view-set (a .self) (full b) (a .i) (a .g) (omega arith), (refl, (λ h. absurd (omega arith))))
 
 returns-2 : tie.Need-returns-2
 returns-2 c =
     let a = c .before .before .args in
-    (sym (set-past (viewRegistries (a .self)) (a .i) (heldOf (a .g)) (omega arith)), refl)
+    (sym (set-past (viewRegistries (a .self)) (a .i) (heldOf (a .g)) (omega arith)), (refl, (λ h. refl)))
 
 pub store-spec : {M : Type 1} → statement M
 store-spec = tie.close (tie.spec size-requires mul-g element-set-from-g returns returns-2)
