@@ -43,9 +43,10 @@ unfolding ledgerOf
 same-ledger l k r =
     let n : length (statesOf l) ≡ l .registryCount = length-map (l .registries) stateOf ∙ sym (r .registries-counted) in
     let g = held-again (l .registries) (k .layouts) in
-    let s : 256 ≡ l .slots = sym (eqb-true (l .slots) 256 (k .all-slots)) in
+    let a : 16 ≡ l .registrySlots = sym (eqb-true (l .registrySlots) 16 (k .registry-slots)) in
+    let b : 256 ≡ l .rowSlots = sym (eqb-true (l .rowSlots) 256 (k .row-slots)) in
     let m : length (l .rows) ≡ l .rowCount = sym (r .rows-counted) in
-    λ i. record { registryCount = n i; registries = g i; slots = s i; rowCount = m i; rows = l .rows }
+    λ i. record { registrySlots = a i; registryCount = n i; registries = g i; rowSlots = b i; rowCount = m i; rows = l .rows }
 
 -- counts that are within the limits
 few : {A : Type 0} (l : List A) (n limit : ℕ) → length l ≡ n → n ≤ limit → leb (length l) limit ≡ true

@@ -5,6 +5,7 @@ use mathlib.Core.Bool.{Bool, true, cond, _&&_}
 use mathlib.Core.List.{List, [], _∷_, _++_, map}
 use lib.Dec.{eqb, leb}
 use lib.ListN.{length}
+use lib.Seq.{sets}
 use Rattle.laws.specs.Number.{numberAt, digits}
 use Rattle.codec_cursor.specs.Readers.{Reader, starting, advanced, need, both, times}
 use Rattle.codec.specs.Layout.{joined, all}
@@ -63,7 +64,7 @@ readImage s c = both readRegistries readCredentials s c
 
 -- the ledger that holds these states
 unfoldable pub ledgerOf : List Registry → List CredentialState → Ledger
-ledgerOf gs ws = record { registryCount = length gs; registries = map heldNow gs; slots = 256; rowCount = length ws; rows = ws }
+ledgerOf gs ws = record { registrySlots = 16; registryCount = length gs; registries = map heldNow gs; rowSlots = 256; rowCount = length ws; rows = ws }
 
 -- what a ledger holds
 abbrev pub stateOf : Held → Registry
@@ -97,6 +98,25 @@ unfoldable pub imageOf : List ℕ → ImageAnswer
 imageOf s =
     let r = readImage s starting in
     cond ((r .next .ok && eqb (r .next .at) (length s)) && sound (ledgerOf (r .value .0) (r .value .1))) (held (r .value .0) (r .value .1)) refused
+
+-- the same, for slices of these lengths: others than 16 registries and 256 rows are refused
+unfoldable pub imageInto : ℕ → ℕ → List ℕ → ImageAnswer
+imageInto registrySlots rowSlots s = cond (eqb registrySlots 16 && eqb rowSlots 256) (imageOf s) refused
+
+-- what writing comes to: the number, the image's length, or 0 after a refusal, and the buffer
+pub record Written : Type 0 where
+  pub number : ℕ
+  pub size : ℕ
+  pub bytes : List ℕ
+
+-- 1 before 30; the bytes past the image, and all of them after a refusal, are those that were there
+unfoldable pub writtenOf : Ledger → List ℕ → Written
+writtenOf l out =
+    cond (sound l)
+    (cond (leb (length (ledgerBytes l)) (length out))
+    (record { number = 0; size = length (ledgerBytes l); bytes = sets out 0 (ledgerBytes l) })
+    (record { number = 30; size = 0; bytes = out }))
+    (record { number = 1; size = 0; bytes = out })
 
 -- the sizes of the elements, summed
 unfoldable pub summed : {A : Type 0} → (A → ℕ) → List A → ℕ

@@ -23,7 +23,7 @@ use Rattle.ledger_step.specs.Tables.{find, put, distinct}
 use Rattle.ledger_step.specs.Ledgers.{Held, heldOf, idOf, holds, keepsLayout, keepsRules}
 use Rattle.ledger_registries.specs.declared.registries.Registries.{Registries}
 use Rattle.ledger_registries.specs.Registries.{viewRegistries, noHeld, at, placeOf, pushed, countPushed, keepsBoth, soundRegistries}
-use Rattle.ledger_registries.proofs.PlaceLaws.{getD-any, find-place, put-place}
+use Rattle.ledger_step.proofs.PlaceLaws.{getD-any, find-place, put-place}
 
 module _ (m : Registries) (h : length (m .items) ≡ 16) where
   pub view-size : length (viewRegistries m) ≡ min (m .count) 16

@@ -1,2 +1,1 @@
-pub mod KeyPlaces
 pub mod Registries

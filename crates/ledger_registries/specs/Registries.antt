@@ -11,7 +11,7 @@ use Rattle.registry_state.specs.States.{noRegistry}
 use Rattle.ledger_step.specs.Tables.{distinct}
 use Rattle.ledger_step.specs.Ledgers.{Held, heldOf, idOf, holds, keepsLayout, keepsRules}
 use Rattle.ledger_registries.specs.declared.registries.Registries.{Registries}
-use Rattle.ledger_registries.specs.KeyPlaces.{place}
+use Rattle.ledger_step.specs.Tables.{place}
 
 -- the registries, as a list: the array's elements before the count, each as it is held
 unfoldable pub viewRegistries : Registries → List Held

@@ -186,25 +186,25 @@ keeps-newRegistry : (s : Ledger) (q : Request) (g : Registry) → Keeps s → Ne
 keeps-newRegistry s q g k n =
     let e : map idOf (s .registries ++ (heldNow g ∷ [])) ≡ idsOf s ++ (g .id ∷ []) = map-append idOf (s .registries) (heldNow g ∷ []) in
     record
-    { few-registries = omega (arith, n .room); all-slots = k .all-slots; few-rows = k .few-rows; layouts = all-more keepsLayout (s .registries) (heldNow g) (k .layouts) refl; row-layouts = k .row-layouts; ids = rw e (distinct-append eqSaid said-test (idsOf s) (g .id) (k .ids) (has-find idOf eqSaid (g .id) (s .registries) ∙ rw (n .absent))); keys = k .keys; homes = rw e (all-weaker (hasRegistry (idsOf s)) (hasRegistry (idsOf s ++ (g .id ∷ []))) (s .rows) (λ w h. has-more eqSaid said-test (w .registry) (g .id) (idsOf s) h) (k .homes)); low = k .low; ruled = all-more keepsRules (s .registries) (heldNow g) (k .ruled) (n .ruled) }
+    { registry-slots = k .registry-slots; few-registries = omega (arith, n .room); row-slots = k .row-slots; few-rows = k .few-rows; layouts = all-more keepsLayout (s .registries) (heldNow g) (k .layouts) refl; row-layouts = k .row-layouts; ids = rw e (distinct-append eqSaid said-test (idsOf s) (g .id) (k .ids) (has-find idOf eqSaid (g .id) (s .registries) ∙ rw (n .absent))); keys = k .keys; homes = rw e (all-weaker (hasRegistry (idsOf s)) (hasRegistry (idsOf s ++ (g .id ∷ []))) (s .rows) (λ w h. has-more eqSaid said-test (w .registry) (g .id) (idsOf s) h) (k .homes)); low = k .low; ruled = all-more keepsRules (s .registries) (heldNow g) (k .ruled) (n .ruled) }
 
 keeps-setRegistry : (s : Ledger) (q : Request) (id : Said) (g : Registry) → Keeps s → SetRegistry s q id g → Keeps (changed s (setRegistry id g))
 keeps-setRegistry s q id g k n =
     let e : map idOf (put idOf eqSaid id (heldNow g) (s .registries)) ≡ idsOf s = map-put idOf eqSaid idOf id (heldNow g) (n .old) (s .registries) (n .there) (n .one .id) in
     record
-    { few-registries = k .few-registries; all-slots = k .all-slots; few-rows = k .few-rows; layouts = all-put idOf eqSaid keepsLayout id (heldNow g) (s .registries) (k .layouts) refl; row-layouts = k .row-layouts; ids = rw e (k .ids); keys = k .keys; homes = rw e (k .homes); low = k .low; ruled = all-put idOf eqSaid keepsRules id (heldNow g) (s .registries) (k .ruled) (n .ruled) }
+    { registry-slots = k .registry-slots; few-registries = k .few-registries; row-slots = k .row-slots; few-rows = k .few-rows; layouts = all-put idOf eqSaid keepsLayout id (heldNow g) (s .registries) (k .layouts) refl; row-layouts = k .row-layouts; ids = rw e (k .ids); keys = k .keys; homes = rw e (k .homes); low = k .low; ruled = all-put idOf eqSaid keepsRules id (heldNow g) (s .registries) (k .ruled) (n .ruled) }
 
 keeps-newRow : (s : Ledger) (q : Request) (w : CredentialState) → Keeps s → NewRow s q w → Keeps (changed s (newRow w))
 keeps-newRow s q w k n =
     let e : map keyOf (s .rows ++ (w ∷ [])) ≡ map keyOf (s .rows) ++ (keyOf w ∷ []) = map-append keyOf (s .rows) (w ∷ []) in
     record
-    { few-registries = k .few-registries; all-slots = k .all-slots; few-rows = omega (arith, n .room); layouts = k .layouts; row-layouts = all-more wellCredential (s .rows) w (k .row-layouts) (n .well); ids = k .ids; keys = rw e (distinct-append eqPair pair-test (map keyOf (s .rows)) (keyOf w) (k .keys) (has-find keyOf eqPair (keyOf w) (s .rows) ∙ rw (n .absent))); homes = all-more (hasRegistry (idsOf s)) (s .rows) w (k .homes) (n .home); low = all-more zeroOrOne (s .rows) w (k .low) (n .low); ruled = k .ruled }
+    { registry-slots = k .registry-slots; few-registries = k .few-registries; row-slots = k .row-slots; few-rows = omega (arith, n .room); layouts = k .layouts; row-layouts = all-more wellCredential (s .rows) w (k .row-layouts) (n .well); ids = k .ids; keys = rw e (distinct-append eqPair pair-test (map keyOf (s .rows)) (keyOf w) (k .keys) (has-find keyOf eqPair (keyOf w) (s .rows) ∙ rw (n .absent))); homes = all-more (hasRegistry (idsOf s)) (s .rows) w (k .homes) (n .home); low = all-more zeroOrOne (s .rows) w (k .low) (n .low); ruled = k .ruled }
 
 keeps-setRow : (s : Ledger) (q : Request) (p : Pair) (w : CredentialState) → Keeps s → SetRow s q p w → Keeps (changed s (setRow p w))
 keeps-setRow s q p w k n =
     let e : map keyOf (put keyOf eqPair p w (s .rows)) ≡ map keyOf (s .rows) = map-put keyOf eqPair keyOf p w (n .old) (s .rows) (n .there) (n .key ∙ sym (find-key keyOf eqPair pair-test p (s .rows) (n .old) (n .there))) in
     record
-    { few-registries = k .few-registries; all-slots = k .all-slots; few-rows = k .few-rows; layouts = k .layouts; row-layouts = all-put keyOf eqPair wellCredential p w (s .rows) (k .row-layouts) (n .well); ids = k .ids; keys = rw e (k .keys); homes = all-put keyOf eqPair (hasRegistry (idsOf s)) p w (s .rows) (k .homes) (n .home); low = all-put keyOf eqPair zeroOrOne p w (s .rows) (k .low) (n .low); ruled = k .ruled }
+    { registry-slots = k .registry-slots; few-registries = k .few-registries; row-slots = k .row-slots; few-rows = k .few-rows; layouts = k .layouts; row-layouts = all-put keyOf eqPair wellCredential p w (s .rows) (k .row-layouts) (n .well); ids = k .ids; keys = rw e (k .keys); homes = all-put keyOf eqPair (hasRegistry (idsOf s)) p w (s .rows) (k .homes) (n .home); low = all-put keyOf eqPair zeroOrOne p w (s .rows) (k .low) (n .low); ruled = k .ruled }
 
 pub keeps-changed : (s : Ledger) (q : Request) (e : Effect) → Keeps s → Legal s q e → Keeps (changed s e)
 keeps-changed s q (refuse r) k n = k

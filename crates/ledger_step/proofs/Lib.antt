@@ -3,11 +3,13 @@ pub mod Changes
 pub mod Lacking
 pub mod Locality
 pub mod NewStates
+pub mod PlaceLaws
 pub mod Places
 pub mod ReadLetters
 pub mod ReadsFixed
 pub mod Rules
 pub mod Runs
+pub mod SoundParts
 pub mod StepSound
 pub mod TableLaws
 pub mod TwoOrders

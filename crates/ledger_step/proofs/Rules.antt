@@ -31,8 +31,9 @@ pair-test = record {
 }
 
 pub record Keeps (l : Ledger) : Type 0 where
+  pub registry-slots : eqb (l .registrySlots) 16 ≡ true
   pub few-registries : l .registryCount ≤ 16
-  pub all-slots : eqb (l .slots) 256 ≡ true
+  pub row-slots : eqb (l .rowSlots) 256 ≡ true
   pub few-rows : l .rowCount ≤ 256
   pub layouts : all keepsLayout (l .registries) ≡ true
   pub row-layouts : all wellCredential (l .rows) ≡ true
@@ -51,12 +52,12 @@ pub parts : (l : Ledger) → sound l ≡ true → Keeps l
 unfolding sound
 parts l h =
     let t = all-hold (rules l) h in
-    let u = t .1 .1 .1 in
+    let u = t .1 .1 .1 .1 in
     let v = u .1 .1 .1 in
     record
-    { few-registries = leb-true (l .registryCount) 16 (t .0); all-slots = t .1 .0; few-rows = leb-true (l .rowCount) 256 (t .1 .1 .0); layouts = u .0; row-layouts = u .1 .0; ids = u .1 .1 .0; keys = v .0; homes = v .1 .0; low = v .1 .1 .0; ruled = v .1 .1 .1 .0 }
+    { registry-slots = t .0; few-registries = leb-true (l .registryCount) 16 (t .1 .0); row-slots = t .1 .1 .0; few-rows = leb-true (l .rowCount) 256 (t .1 .1 .1 .0); layouts = u .0; row-layouts = u .1 .0; ids = u .1 .1 .0; keys = v .0; homes = v .1 .0; low = v .1 .1 .0; ruled = v .1 .1 .1 .0 }
 
 pub whole : (l : Ledger) → Keeps l → sound l ≡ true
 unfolding sound holds
 whole l k =
-    rw (le-leb (l .registryCount) 16 (k .few-registries), k .all-slots, le-leb (l .rowCount) 256 (k .few-rows), k .layouts, k .row-layouts, k .ids, k .keys, k .homes, k .low, k .ruled)
+    rw (k .registry-slots, le-leb (l .registryCount) 16 (k .few-registries), k .row-slots, le-leb (l .rowCount) 256 (k .few-rows), k .layouts, k .row-layouts, k .ids, k .keys, k .homes, k .low, k .ruled)

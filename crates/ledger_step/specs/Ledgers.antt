@@ -4,6 +4,7 @@ use mathlib.Core.Bool.{Bool, true, cond, _&&_}
 use mathlib.Core.Option.{Option, none, some}
 use mathlib.Core.List.{List, [], _∷_, map}
 use lib.Dec.{eqb, leb}
+use lib.ListN.{length, take}
 use Rattle.cesr.specs.Numbers.{value}
 use Rattle.cesr.specs.Primitives.{eqSaid, isSaid}
 use Rattle.cesr.specs.declared.primitive.Said.{Said}
@@ -24,13 +25,19 @@ abbrev pub heldOf : RegistryState → Held
 heldOf g = record { well = wellRegistry g; state = viewRegistry g }
 
 -- The counts are those that are handed in, also past their limits. The registries and rows are those before the counts, in the
--- order in which they arrived. The slots are the length of the slice in which the rows are lent.
+-- order in which they arrived. The slots are the lengths of the slices in which the registries and the rows are lent.
 pub record Ledger : Type 0 where
+  pub registrySlots : ℕ
   pub registryCount : ℕ
   pub registries : List Held
-  pub slots : ℕ
+  pub rowSlots : ℕ
   pub rowCount : ℕ
   pub rows : List CredentialState
+
+-- the ledger that is handed in as two lent slices, each with its count
+unfoldable pub lentLedger : List RegistryState → ℕ → List CredentialState → ℕ → Ledger
+lentLedger gs m ws n =
+    record { registrySlots = length gs; registryCount = m; registries = map heldOf (take m gs); rowSlots = length ws; rowCount = n; rows = take n ws }
 
 abbrev pub idOf : Held → Said
 idOf g = g .state .id
@@ -69,8 +76,9 @@ zeroOrOne w = leb (value (w .sn)) 1
 -- the reading rules: each is a test
 abbrev pub rules : Ledger → List Bool
 rules l =
-    leb (l .registryCount) 16
-    ∷ eqb (l .slots) 256
+    eqb (l .registrySlots) 16
+    ∷ leb (l .registryCount) 16
+    ∷ eqb (l .rowSlots) 256
     ∷ leb (l .rowCount) 256
     ∷ all keepsLayout (l .registries)
     ∷ all wellCredential (l .rows)
@@ -80,6 +88,15 @@ rules l =
     ∷ all zeroOrOne (l .rows)
     ∷ all keepsRules (l .registries)
     ∷ []
+
+-- those of them that speak of registries alone, and of rows alone
+abbrev pub registryRules : ℕ → ℕ → List Held → List Bool
+registryRules slots n gs =
+    eqb slots 16 ∷ leb n 16 ∷ all keepsLayout gs ∷ distinct eqSaid (map idOf gs) ∷ all keepsRules gs ∷ []
+
+abbrev pub rowRules : ℕ → ℕ → List CredentialState → List Bool
+rowRules slots n ws =
+    eqb slots 256 ∷ leb n 256 ∷ all wellCredential ws ∷ distinct eqPair (map keyOf ws) ∷ all zeroOrOne ws ∷ []
 
 unfoldable pub sound : Ledger → Bool
 sound l = holds (rules l)

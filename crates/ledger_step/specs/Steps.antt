@@ -117,13 +117,13 @@ heldNow g = record { well = true; state = g }
 abbrev pub changed : Ledger → Effect → Ledger
 changed l (refuse r) = l
 changed l (newRegistry g) =
-    record { registryCount = l .registryCount + 1; registries = l .registries ++ (heldNow g ∷ []); slots = l .slots; rowCount = l .rowCount; rows = l .rows }
+    record { registrySlots = l .registrySlots; registryCount = l .registryCount + 1; registries = l .registries ++ (heldNow g ∷ []); rowSlots = l .rowSlots; rowCount = l .rowCount; rows = l .rows }
 changed l (setRegistry id g) =
-    record { registryCount = l .registryCount; registries = put idOf eqSaid id (heldNow g) (l .registries); slots = l .slots; rowCount = l .rowCount; rows = l .rows }
+    record { registrySlots = l .registrySlots; registryCount = l .registryCount; registries = put idOf eqSaid id (heldNow g) (l .registries); rowSlots = l .rowSlots; rowCount = l .rowCount; rows = l .rows }
 changed l (newRow w) =
-    record { registryCount = l .registryCount; registries = l .registries; slots = l .slots; rowCount = l .rowCount + 1; rows = l .rows ++ (w ∷ []) }
+    record { registrySlots = l .registrySlots; registryCount = l .registryCount; registries = l .registries; rowSlots = l .rowSlots; rowCount = l .rowCount + 1; rows = l .rows ++ (w ∷ []) }
 changed l (setRow k w) =
-    record { registryCount = l .registryCount; registries = l .registries; slots = l .slots; rowCount = l .rowCount; rows = put keyOf eqPair k w (l .rows) }
+    record { registrySlots = l .registrySlots; registryCount = l .registryCount; registries = l .registries; rowSlots = l .rowSlots; rowCount = l .rowCount; rows = put keyOf eqPair k w (l .rows) }
 
 -- an answer, and the ledger behind it
 pub record Step : Type 0 where

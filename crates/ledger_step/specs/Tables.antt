@@ -1,7 +1,10 @@
 -- Tables: lists whose elements have keys (docs/RULES.md, "Ledger").
+use Prim.Native.Nat.{ℕ}
 use mathlib.Core.Bool.{Bool, true, false, cond, not, _&&_, _||_}
 use mathlib.Core.Option.{Option, none, some}
 use mathlib.Core.List.{List, [], _∷_}
+use lib.ListN.{length, getD}
+use Rattle.laws.specs.First.{first}
 
 -- whether k is in the list, and whether no two of the list are equal
 module _ {K : Type 0} (eq : K → K → Bool) where
@@ -27,3 +30,8 @@ module _ {X K : Type 0} (key : X → K) (eq : K → K → Bool) where
 abbrev pub found : {X : Type 0} → Option X → Bool
 found none = false
 found (some x) = true
+
+-- the least place whose element has the key k, or the length where there is none; past the end stands the blank one
+module _ {X K : Type 0} (key : X → K) (eq : K → K → Bool) (blank : X) where
+  unfoldable pub place : K → List X → ℕ
+  place k l = first (λ i. eq (key (getD l i blank)) k) (length l)

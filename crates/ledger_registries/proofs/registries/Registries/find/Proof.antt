@@ -8,7 +8,7 @@ use Rattle.laws.proofs.First.{first-found, first-none}
 use Rattle.cesr.specs.Primitives.{eqSaid}
 use Rattle.ledger_step.specs.Ledgers.{Held, idOf}
 use Rattle.ledger_registries.specs.Registries.{viewRegistries, at}
-use Rattle.ledger_registries.specs.KeyPlaces.{place}
+use Rattle.ledger_step.specs.Tables.{place}
 use Rattle.ledger_registries.proofs.registries.Registries.find.Statement.{statement}
 use Rattle.ledger_registries.proofs.registries.Registries.find.Tie as tie
 

@@ -7,7 +7,7 @@ use Rattle.cesr.specs.Primitives.{eqSaid}
 use Rattle.ledger_step.specs.Ledgers.{Held, idOf}
 use Rattle.ledger_step.proofs.Rules.{said-test}
 use Rattle.ledger_registries.specs.Registries.{viewRegistries, noHeld, at, placeOf}
-use Rattle.ledger_registries.proofs.PlaceLaws.{places-apart, not-apart}
+use Rattle.ledger_step.proofs.PlaceLaws.{places-apart, not-apart}
 use Rattle.ledger_registries.proofs.registries.Registries.ids_apart.Statement.{statement}
 use Rattle.ledger_registries.proofs.registries.Registries.ids_apart.Tie as tie
 

@@ -5,7 +5,7 @@ use lib.ListN.{length}
 use Rattle.laws.proofs.Views.{length-mapped}
 use Rattle.ledger_step.specs.Ledgers.{heldOf}
 use Rattle.ledger_registries.specs.Registries.{viewRegistries}
-use Rattle.ledger_registries.proofs.PlaceLaws.{set-past}
+use Rattle.ledger_step.proofs.PlaceLaws.{set-past}
 use Rattle.ledger_registries.proofs.RegistryViews.{view-set}
 use Rattle.ledger_registries.proofs.registries.Registries.store.Statement.{statement}
 use Rattle.ledger_registries.proofs.registries.Registries.store.Tie as tie

@@ -15,9 +15,8 @@ use lib.ListN.{length, getD, set}
 use Rattle.laws.specs.First.{first}
 use Rattle.laws.proofs.First.{first-holds}
 use Rattle.laws.proofs.Tests.{and-left, and-right}
-use Rattle.ledger_step.specs.Tables.{has, distinct, find, put, found}
+use Rattle.ledger_step.specs.Tables.{has, distinct, find, put, found, place}
 use Rattle.ledger_step.proofs.TableLaws.{Tests, has-find}
-use Rattle.ledger_registries.specs.KeyPlaces.{place}
 
 pub getD-any : {A : Type 0} (l : List A) (i : ℕ) (d e : A) → i < length l → getD l i d ≡ getD l i e
 getD-any [] i d e b = absurd (omega arith)
