@@ -1,0 +1,148 @@
+// The standing of a credential, by its key (docs/RULES.md, "Look-up").
+use crate::stubs::find_at;
+use crate::stubs::find_registry;
+use crate::stubs::registries_sound;
+use crate::stubs::rows_sound;
+use cesr::number::Sn;
+use cesr::primitive::Said;
+use ledger_rows::rows::read_row;
+use registry_state::state::CredentialState;
+use registry_state::state::RegistryState;
+ghost use mathlib.Core.Path.{_≡_};
+ghost use Prim.Native.Nat.{min};
+ghost use mathlib.Core.Bool.{_&&_};
+ghost use lib.Dec.{eqb, ltb};
+ghost use Rattle.cesr.specs.Numbers.{value};
+ghost use Rattle.ledger_step.specs.Ledgers.{lentLedger, sound, wellPair, lookUp};
+ghost use Rattle.ledger.specs.Lookups.{rowsHeld, viewLookedUp, pairOf, lookedUpOf};
+
+// Whether a search among the first `count` of `len` states ended before the last of them.
+fn is_found(at: usize, count: usize, len: usize) -> bool
+    ensures { λ r. ⌜ r ≡ ltb at (min count len) ⌝ }
+{
+    (at < count) & (at < len)
+}
+
+fn lesser(a: usize, b: usize) -> usize
+    ensures { λ r. ⌜ r ≡ min a b ⌝ }
+{
+    if a < b {
+        return a;
+    }
+    b
+}
+
+// Whether the registry of each of the first `row_count` rows is among the first `registry_count` registries.
+pub fn rows_held<'a>(
+    registries: &'a [RegistryState],
+    registry_count: usize,
+    rows: &'a [CredentialState],
+    row_count: usize,
+) -> bool
+    ensures { λ r. ⌜ r ≡ rowsHeld (now (registries .entry)) «registry_count» (now (rows .entry)) «row_count» ⌝ }
+{
+    let n = lesser(row_count, rows.len());
+    let mut i = 0;
+    while i < n {
+        let row = rows[i];
+        let at = find_registry(registries, registry_count, row.registry);
+        if !is_found(at, registry_count, registries.len()) {
+            return false;
+        }
+        i += 1;
+    }
+    true
+}
+
+// Whether a ledger keeps to every reading rule.
+pub fn sound<'a>(
+    registries: &'a [RegistryState],
+    registry_count: usize,
+    rows: &'a [CredentialState],
+    row_count: usize,
+) -> bool
+    ensures { λ r. ⌜ r ≡ sound (lentLedger (now (registries .entry)) «registry_count» (now (rows .entry)) «row_count») ⌝ }
+{
+    registries_sound(registries, registry_count)
+        & (rows_sound(rows, row_count)
+            & rows_held(registries, registry_count, rows, row_count))
+}
+
+// What a look-up answers: 0 or the refusal 1, and 1 Issued, 2 Revoked, 3 Unknown, or 0 after a refusal.
+pub struct LookedUp {
+    pub refusal: u8,
+    pub standing: u8,
+}
+
+// Whether there is a standing: the ledger keeps to the reading rules, and both parts of the key are saids.
+fn has_standing(ok: bool, registry: Said, credential: Said) -> bool
+    ensures { λ r. ⌜ r ≡ (ok && wellPair (pairOf registry credential)) ⌝ }
+{
+    ok & (registry.0.is_said() & credential.0.is_said())
+}
+
+fn is_below(at: usize, count: usize) -> bool
+    ensures { λ r. ⌜ r ≡ ltb at count ⌝ }
+{
+    at < count
+}
+
+// A credential is issued at sn 0; each later sn is a revocation's.
+fn is_issued(row: CredentialState) -> bool
+    ensures { λ r. ⌜ r ≡ eqb (value (row .sn)) 0 ⌝ }
+{
+    let one = Sn { hi: 0, lo: 1 };
+    row.sn.less(one)
+}
+
+// What the row at the place says where a search for the key ended. Past the last row there is none.
+fn standing(
+    ok: bool,
+    at: usize,
+    row_count: usize,
+    row: CredentialState,
+    registry: Said,
+    credential: Said,
+) -> LookedUp
+    ensures { λ r. ⌜ viewLookedUp r ≡ lookedUpOf ok at «row_count» row (pairOf registry credential) ⌝ }
+{
+    if has_standing(ok, registry, credential) {
+        if is_below(at, row_count) {
+            if is_issued(row) {
+                return LookedUp {
+                    refusal: 0,
+                    standing: 1,
+                };
+            }
+            return LookedUp {
+                refusal: 0,
+                standing: 2,
+            };
+        }
+        return LookedUp {
+            refusal: 0,
+            standing: 3,
+        };
+    }
+    LookedUp {
+        refusal: 1,
+        standing: 0,
+    }
+}
+
+// The standing of a credential. A ledger that breaks a reading rule has none, nor has a key whose parts are no saids.
+pub fn look_up<'a>(
+    registries: &'a [RegistryState],
+    registry_count: usize,
+    rows: &'a [CredentialState],
+    row_count: usize,
+    registry: Said,
+    credential: Said,
+) -> LookedUp
+    ensures { λ r. ⌜ viewLookedUp r ≡ lookUp (lentLedger (now (registries .entry)) «registry_count» (now (rows .entry)) «row_count») (pairOf registry credential) ⌝ }
+{
+    let ok = sound(registries, registry_count, rows, row_count);
+    let at = find_at(rows, row_count, registry, credential);
+    let row = read_row(rows, at);
+    standing(ok, at, row_count, row, registry, credential)
+}
