@@ -1,13 +1,14 @@
 -- Laws of the registries of a ledger, as they are lent.
 --     blank-held   a blank registry, as it is held
 --     held-at      the registry at a place before the count, as it is held
-use Prim.Native.Nat.{ℕ, _<_, min}
-use mathlib.Core.Path.{_≡_, refl, ap, _∙_}
+--     read-there, read-past   what is said of a registry that is read, within the slice and past its end
+use Prim.Native.Nat.{ℕ, _<_, _≤_, min}
+use mathlib.Core.Path.{_≡_, refl, ap, sym, _∙_}
 use mathlib.Core.Bool.{false, and-false}
 use mathlib.Core.List.{List, map}
 use native.Mathlib.Omega.{arith}
 use lib.Dec.{leb}
-use lib.ListN.{length, getD, take}
+use lib.ListN.{length, length-map, getD, take, List·getD-map, List·getD-eq-default}
 use Rattle.laws.proofs.Views.{seen-size, seen-at}
 use Rattle.cesr.specs.Primitives.{isSaid}
 use Rattle.cesr.specs.declared.primitive.Said.{Said}
@@ -36,3 +37,11 @@ pub held-at : (gs : List RegistryState) (count i : ℕ) → i < min count (lengt
 held-at gs count i h =
     let n = seen-size heldOf count (length gs) gs refl in
     seen-at heldOf count (length gs) gs refl i blank (omega (arith, n)) ∙ getD-any (map heldOf (take count gs)) i (heldOf blank) noHeld (omega (arith, n))
+
+pub read-there : (gs : List RegistryState) (i : ℕ) → i < length gs → (heldOf (getD gs i blank) ≡ getD (map heldOf gs) i noHeld) × (i < length gs → getD gs i blank ≡ getD gs i blank)
+read-there gs i h =
+    (sym (List·getD-map heldOf gs i blank) ∙ getD-any (map heldOf gs) i (heldOf blank) noHeld (omega (arith, length-map gs heldOf)), λ _. refl)
+
+pub read-past : (gs : List RegistryState) (i : ℕ) (g : RegistryState) → length gs ≤ i → viewRegistry g ≡ noRegistry → (heldOf g ≡ getD (map heldOf gs) i noHeld) × (i < length gs → g ≡ getD gs i blank)
+read-past gs i g h e =
+    (blank-held g e ∙ sym (List·getD-eq-default (map heldOf gs) noHeld {n = i} (omega (arith, length-map gs heldOf))), λ l. absurd (omega arith))

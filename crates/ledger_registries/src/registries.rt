@@ -6,10 +6,33 @@ use registry_error::answer::backer_set;
 use registry_state::state::RegistryState;
 ghost use mathlib.Core.Path.{_≡_};
 ghost use mathlib.Core.Bool.{_&&_};
-ghost use Prim.Native.Nat.{min};
+ghost use mathlib.Core.List.{map};
+ghost use Prim.Native.Nat.{_<_, min};
+ghost use lib.ListN.{length, getD, set};
 ghost use Rattle.registry_state.specs.States.{viewRegistry, wellRegistry};
 ghost use Rattle.registry_laws.specs.ReadingRules.{soundRegistry};
-ghost use Rattle.ledger_registries.specs.Registries.{findRegistry};
+ghost use Rattle.ledger_step.specs.Ledgers.{heldOf};
+ghost use Rattle.ledger_registries.specs.Registries.{noHeld, blank, findRegistry};
+
+// The registry at a place; past the end a blank one.
+pub fn read_registry(registries: &[RegistryState], at: usize) -> RegistryState
+    ensures held { λ r. ⌜ heldOf r ≡ getD (map heldOf (now (registries .entry))) at noHeld ⌝ }
+    ensures state { λ r. ⌜ (at < length (now (registries .entry)) → r ≡ getD (now (registries .entry)) at blank) ⌝ }
+{
+    if at < registries.len() {
+        return registries[at];
+    }
+    RegistryState::none()
+}
+
+// The registry is stored at a place; past the end nothing is.
+pub fn store_registry(registries: &mut [RegistryState], at: usize, g: RegistryState)
+    ensures { λ r. ⌜ now (registries .exit) ≡ set (now (registries .entry)) at g ⌝ }
+{
+    if at < registries.len() {
+        registries[at] = g;
+    }
+}
 
 fn lesser(a: usize, b: usize) -> usize
     ensures { λ r. ⌜ r ≡ min a b ⌝ }
