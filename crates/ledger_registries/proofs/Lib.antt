@@ -1,1 +1,4 @@
+pub mod Find
+pub mod Places
 pub mod RegistryViews
+pub mod Sound

@@ -1,2 +1,2 @@
-// The registries of a ledger (docs/RULES.md, "Ledger", "Reading rules").
+// The functions over the registries of a ledger, which are lent as one slice (docs/RULES.md, "Forms").
 pub mod registries;
