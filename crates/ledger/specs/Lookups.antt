@@ -5,25 +5,21 @@ use mathlib.Core.Option.{none, some}
 use mathlib.Core.List.{List, map}
 use lib.Dec.{ltb}
 use lib.ListN.{take}
-use Rattle.cesr.specs.Primitives.{eqSaid}
 use Rattle.cesr.specs.declared.primitive.Said.{Said}
 use Rattle.codec.specs.Layout.{all}
-use Rattle.registry_state.specs.States.{noRegistry, noCredential}
+use Rattle.registry_state.specs.States.{noCredential}
 use Rattle.registry_state.specs.declared.state.RegistryState.{RegistryState}
 use Rattle.registry_state.specs.declared.state.CredentialState.{CredentialState}
 use Rattle.registry_laws.specs.Pairs.{Pair, keyOf}
 use Rattle.ledger_step.specs.Tables.{place}
 use Rattle.ledger_step.specs.Ledgers.{heldOf, idOf, eqPair, hasRegistry, LookedUp, standingOf, wellPair}
-use Rattle.ledger_registries.specs.Registries.{placeOf}
 use Rattle.ledger.specs.declared.lookup.LookedUp as Code
 
--- the place of a registry among the first count, and of a row
-unfoldable pub findRegistry : List RegistryState → ℕ → Said → ℕ
-findRegistry gs count id = placeOf id (map heldOf (take count gs))
-
+-- the key of a row
 abbrev pub pairOf : Said → Said → Pair
 pairOf registry credential = record { registry = registry; credential = credential }
 
+-- the place of a row among the first count
 unfoldable pub findRow : List CredentialState → ℕ → Said → Said → ℕ
 findRow ws count registry credential = place keyOf eqPair noCredential (pairOf registry credential) (take count ws)
 

@@ -1,10 +1,10 @@
 // The standing of a credential, by its key (docs/RULES.md, "Look-up").
 use crate::stubs::find_at;
-use crate::stubs::find_registry;
-use crate::stubs::registries_sound;
 use crate::stubs::rows_sound;
 use cesr::number::Sn;
 use cesr::primitive::Said;
+use ledger_registries::registries::find_registry;
+use ledger_registries::registries::registries_sound;
 use ledger_rows::rows::read_row;
 use registry_state::state::CredentialState;
 use registry_state::state::RegistryState;

@@ -45,10 +45,10 @@ use Rattle.ledger_step.proofs.SoundParts.{sound-parts}
 use Rattle.ledger.specs.Lookups.{rowsHeld}
 use Rattle.registry_state.proofs.state.RegistryState as G
 use Rattle.registry_state.proofs.state.CredentialState as T
-use Rattle.ledger.proofs.stubs.registries_sound as first
-use Rattle.ledger.proofs.stubs.registries_sound.Symbol as first-def
-use Rattle.ledger.proofs.stubs.registries_sound.Symbol.{name as #first}
-use Rattle.ledger.proofs.stubs.registries_sound.Met as first-thm
+use Rattle.ledger_registries.proofs.registries.registries_sound as first
+use Rattle.ledger_registries.proofs.registries.registries_sound.Symbol as first-def
+use Rattle.ledger_registries.proofs.registries.registries_sound.Symbol.{name as #first}
+use Rattle.ledger_registries.proofs.registries.registries_sound.Met as first-thm
 use Rattle.ledger.proofs.stubs.rows_sound as second
 use Rattle.ledger.proofs.stubs.rows_sound.Symbol as second-def
 use Rattle.ledger.proofs.stubs.rows_sound.Symbol.{name as #second}
@@ -249,6 +249,6 @@ sound-spec 𝓤 H 𝓜 𝓖 𝓡 =
     entered 𝓤 H (tripleOf 𝓤 H (𝓖 .A) me.signature (me.spec 𝓤 H (𝓖 .A) (𝓜 .mem) (𝓡 .run)))
     (tables 𝓤 H 𝓜 𝓡 code.env .C) (tables 𝓤 H 𝓜 𝓡 code.env .Λ) #me code.function (code.unfolded 𝓤 H 𝓜 𝓡)
     (me-meets 𝓤 H (𝓖 .A) (givenOf 𝓤 H 𝓜 𝓖) (𝓜 .mem) (𝓡 .run) (tablesOf 𝓤 H 𝓜 (tables 𝓤 H 𝓜 𝓡 code.env))
-    (cited 𝓤 H (RegistriesSound 𝓤 H (𝓖 .A) (𝓜 .mem) (𝓡 .run)) 𝓜 𝓡 code.env #first first-def.routine code.calls-ledger·stubs·registries-sound (first-thm.met 𝓤 H 𝓜 𝓖 𝓡))
+    (cited 𝓤 H (RegistriesSound 𝓤 H (𝓖 .A) (𝓜 .mem) (𝓡 .run)) 𝓜 𝓡 code.env #first first-def.routine code.calls-ledger-registries·registries·registries-sound (first-thm.met 𝓤 H 𝓜 𝓖 𝓡))
     (cited 𝓤 H (RowsSound 𝓤 H (𝓖 .A) (𝓜 .mem) (𝓡 .run)) 𝓜 𝓡 code.env #second second-def.routine code.calls-ledger·stubs·rows-sound (second-thm.met 𝓤 H 𝓜 𝓖 𝓡))
     (cited 𝓤 H (RowsHeld 𝓤 H (𝓖 .A) (𝓜 .mem) (𝓡 .run)) 𝓜 𝓡 code.env #third third-def.routine code.calls-ledger·lookup·rows-held (third-thm.met 𝓤 H 𝓜 𝓖 𝓡)))
