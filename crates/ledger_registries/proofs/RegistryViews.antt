@@ -1,23 +1,28 @@
 -- Laws of the registries of a ledger, as they are lent.
---     blank-held   a blank registry, as it is held
---     held-at      the registry at a place before the count, as it is held
---     take-held    the registries before the count, as they are held
---     read-there, read-past   what is said of a registry that is read, within the slice and past its end
+--     blank-held                        a blank registry, as it is held
+--     held-at, take-held                a registry before the count, and all of them, as they are held
+--     read-there, read-past             what is said of a registry that is read, within the slice and past its end
+--     found-registry, stored-registry   the ledger's look-up and its replacement, by place
 use Prim.Native.Nat.{ℕ, zero, suc, _<_, _≤_, min}
 use mathlib.Core.Path.{_≡_, refl, ap, sym, _∙_}
-use mathlib.Core.Bool.{false, and-false}
+use mathlib.Core.Bool.{Bool, true, false, cond, and-false}
+use mathlib.Core.Option.{none, some}
 use mathlib.Core.List.{List, [], _∷_, map}
 use native.Mathlib.Omega.{arith}
-use lib.Dec.{leb}
-use lib.ListN.{length, length-map, getD, take, List·getD-map, List·getD-eq-default}
-use Rattle.laws.proofs.Views.{seen-size, seen-at}
-use Rattle.cesr.specs.Primitives.{isSaid}
+use native.Mathlib.Decide.{decLt}
+use borrow.Author.Tests.{ltb-true}
+use lib.Dec.{ltb, leb}
+use lib.ListN.{length, length-map, getD, set, take, List·getD-map, List·getD-eq-default}
+use lib.Seq.{set-out, take-set-le}
+use Rattle.laws.proofs.Views.{seen-size, seen-at, seen-set}
+use Rattle.cesr.specs.Primitives.{eqSaid, isSaid}
 use Rattle.cesr.specs.declared.primitive.Said.{Said}
 use Rattle.registry_state.specs.States.{Registry, viewRegistry, wellRegistry, noRegistry, noSaid}
 use Rattle.registry_state.specs.declared.state.RegistryState.{RegistryState}
-use Rattle.ledger_step.specs.Ledgers.{Held, heldOf}
-use Rattle.ledger_step.proofs.PlaceLaws.{getD-any}
-use Rattle.ledger_registries.specs.Registries.{noHeld, blank}
+use Rattle.ledger_step.specs.Tables.{find, put, place}
+use Rattle.ledger_step.specs.Ledgers.{Held, heldOf, idOf}
+use Rattle.ledger_step.proofs.PlaceLaws.{getD-any, find-place, put-place}
+use Rattle.ledger_registries.specs.Registries.{noHeld, blank, findRegistry}
 
 no-letter : isSaid (noSaid .0) ≡ false
 unfolding isSaid
@@ -52,3 +57,33 @@ read-there gs i h =
 pub read-past : (gs : List RegistryState) (i : ℕ) (g : RegistryState) → length gs ≤ i → viewRegistry g ≡ noRegistry → (heldOf g ≡ getD (map heldOf gs) i noHeld) × (i < length gs → g ≡ getD gs i blank)
 read-past gs i g h e =
     (blank-held g e ∙ sym (List·getD-eq-default (map heldOf gs) noHeld {n = i} (omega (arith, length-map gs heldOf))), λ l. absurd (omega arith))
+
+-- the ledger's look-up: a registry is held exactly where the place is among those in use, and then it is the one there
+pub found-registry : (gs : List RegistryState) (count : ℕ) (id : Said) → find idOf eqSaid id (map heldOf (take count gs)) ≡ cond (ltb (findRegistry gs count id) (min count (length gs))) (some (heldOf (getD gs (findRegistry gs count id) blank))) none
+unfolding findRegistry
+found-registry gs count id =
+    let l = map heldOf (take count gs) in
+    let p = place idOf eqSaid noHeld id l in
+    find-place idOf eqSaid noHeld id l ∙ rw (seen-size heldOf count (length gs) gs refl) (go p (ltb p (min count (length gs))) refl)
+  where
+    go : (p : ℕ) (t : Bool) → ltb p (min count (length gs)) ≡ t → cond t (some (getD (map heldOf (take count gs)) p noHeld)) none ≡ cond t (some (heldOf (getD gs p blank))) none
+    go p true e = ap some (sym (held-at gs count p (ltb-true p (min count (length gs)) e)))
+    go p false e = refl
+
+-- the ledger's replacement: a store at that place
+pub stored-registry : (gs : List RegistryState) (count : ℕ) (id : Said) (g : RegistryState) → put idOf eqSaid id (heldOf g) (map heldOf (take count gs)) ≡ map heldOf (take count (set gs (findRegistry gs count id) g))
+unfolding findRegistry
+stored-registry gs count id g =
+    put-place idOf eqSaid noHeld id (heldOf g) (map heldOf (take count gs)) ∙ go (place idOf eqSaid noHeld id (map heldOf (take count gs)))
+  where
+    go : (p : ℕ) → set (map heldOf (take count gs)) p (heldOf g) ≡ map heldOf (take count (set gs p g))
+    go p =
+        let n = seen-size heldOf count (length gs) gs refl in
+        elim (decLt p (min count (length gs))) [
+          | yes b ↦ sym (seen-set heldOf count (length gs) gs refl p g (omega (arith, n)))
+          | no b ↦
+              set-out (map heldOf (take count gs)) p (heldOf g) (omega (arith, n)) ∙ elim (decLt p count) [
+                | yes c ↦ ap (λ (l : List RegistryState). map heldOf (take count l)) (sym (set-out gs p g (omega arith)))
+                | no c ↦ ap (map heldOf) (sym (take-set-le count gs p g (omega arith)))
+              ]
+        ]

@@ -24,7 +24,7 @@ module _ (gs : List RegistryState) where
   abbrev held : List Held
   held = map heldOf gs
 
-  -- the registries are as many as they are
+  -- the test of the sizes, by the slice's length and the count
   abbrev sized : ℕ → ℕ → Bool
   sized len n = eqb len 16 && leb n 16
 

@@ -7,7 +7,7 @@ use native.Mathlib.Nat.{lt-suc-self}
 use native.Mathlib.Omega.{arith}
 use mathlib.Core.Bool.{Bool}
 use mathlib.Core.List.{List, [], _∷_}
-use lib.Dec.{ltb, lit<}
+use lib.Dec.{lit<}
 use lib.ListN.{length, getD}
 use lib.WfN.{Nat·lt-wfRel}
 use borrow.Author.Tests.{lt-ltb}
@@ -53,7 +53,7 @@ use Rattle.cesr.specs.declared.primitive.Said.{Said}
 use Rattle.registry_state.specs.declared.state.RegistryState.{RegistryState}
 use Rattle.ledger_registries.specs.Registries.{blank, findRegistry}
 use Rattle.ledger_registries.proofs.Find.{Facts, hasId, at-start, at-end, at-hit, at-miss}
-use Rattle.ledger_registries.proofs.Places.{offset-fits}
+use Rattle.ledger_registries.proofs.Places.{low, offset-fits}
 use Rattle.ledger_step.proofs.Turns.{below, there, here-fits, next-fits, next-is, none-passed, all-passed, none-left, holds-true, fails}
 use Rattle.cesr.proofs.primitive.Said as S
 use Rattle.cesr.proofs.primitive.Said.Laws as S′
@@ -82,10 +82,6 @@ word = tyInt w64
 
 abbrev slice : Ty
 slice = sliceTy (tyRef (named 0) imm (pointee (T.the-row .written)))
-
--- a registry as a machine value
-abbrev low : RegistryState → Val
-low g = LL.val T.the-type T′.the-laws g
 
 abbrev step-on : Body
 step-on = assign (place 5 []) (op2 (add unsigned) (copy (place 5 [])) (int w64 1))

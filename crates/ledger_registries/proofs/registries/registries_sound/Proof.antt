@@ -6,7 +6,7 @@ use Prim.Native.Nat.{ℕ, zero, suc, _-_, _<_, _≤_, _^_}
 use native.Mathlib.Nat.{lt-suc-self}
 use mathlib.Core.Bool.{Bool, true, false, not, _&&_}
 use mathlib.Core.List.{List, [], _∷_, map}
-use lib.Dec.{eqb, leb, ltb, lit<}
+use lib.Dec.{eqb, leb, lit<}
 use lib.ListN.{length, getD, take}
 use lib.WfN.{Nat·lt-wfRel}
 use borrow.Author.Tests.{lt-ltb, not-false}
@@ -53,7 +53,7 @@ use Rattle.registry_laws.specs.ReadingRules.{soundRegistry}
 use Rattle.ledger_step.specs.Ledgers.{heldOf, holds, registryRules}
 use Rattle.ledger_registries.specs.Registries.{blank, findRegistry}
 use Rattle.ledger_step.proofs.Turns.{below, there, here-fits, next-fits, next-is, none-passed, all-passed, none-left, fails}
-use Rattle.ledger_registries.proofs.Places.{offset-fits}
+use Rattle.ledger_registries.proofs.Places.{low, offset-fits}
 use Rattle.ledger_registries.proofs.Sound.{Facts, passesAt, enough, wrong-size, at-start, at-end, at-bad, at-good}
 use Rattle.cesr.proofs.primitive.Said as S
 use Rattle.cesr.proofs.primitive.Said.Laws as S′
@@ -86,10 +86,6 @@ word = tyInt w64
 
 abbrev slice : Ty
 slice = sliceTy (tyRef (named 0) imm (pointee (T.the-row .written)))
-
--- a registry as a machine value
-abbrev low : RegistryState → Val
-low g = LL.val T.the-type T′.the-laws g
 
 abbrev step-on : Body
 step-on = assign (place 3 []) (op2 (add unsigned) (copy (place 3 [])) (int w64 1))
