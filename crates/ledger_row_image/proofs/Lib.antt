@@ -1,0 +1,2 @@
+pub mod Relend
+pub mod RowTurns
