@@ -1,0 +1,2 @@
+pub mod SectionSizes
+pub mod Places
