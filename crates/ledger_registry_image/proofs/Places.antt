@@ -23,6 +23,12 @@ module _ {n m t : ℕ} (l : n ≤ m) (f : suc t ≤ n) (g : n < 2 ^ 64) where
   pub next-is : n - suc t + 1 ≡ n - t
   next-is = omega arith
 
+  pub suc-is : suc (n - suc t) ≡ n - t
+  suc-is = omega arith
+
+  pub less : t ≤ n
+  less = omega arith
+
 pub none-passed : (n : ℕ) → n - n ≡ 0
 none-passed n = omega arith
 
