@@ -1,0 +1,4 @@
+pub mod SectionSizes
+pub mod SectionWrites
+pub mod Places
+pub mod Relend
