@@ -54,30 +54,30 @@ use Rattle.registry_state.specs.declared.state.CredentialState.{CredentialState
 use Rattle.ledger_step.proofs.Turns.{below, there, here-fits, next-fits, next-is, none-passed, all-passed, none-left, fails}
 use Rattle.ledger_registries.specs.Registries.{findRegistry}
 use Rattle.ledger_rows.proofs.Places.{offset-fits}
-use Rattle.ledger.specs.Lookups.{rowsHeld}
-use Rattle.ledger.proofs.HeldRows.{size, heldAt, Facts, at-start, at-good, at-bad, at-end}
+use Rattle.ledger_lookup.specs.Lookups.{rowsHeld}
+use Rattle.ledger_lookup.proofs.HeldRows.{size, heldAt, Facts, at-start, at-good, at-bad, at-end}
 use Rattle.cesr.proofs.primitive.Said as S
 use Rattle.cesr.proofs.primitive.Said.Laws as S′
 use Rattle.registry_state.proofs.state.RegistryState as G
 use Rattle.registry_state.proofs.state.CredentialState as T
 use Rattle.registry_state.proofs.state.CredentialState.Laws as T′
-use Rattle.ledger.proofs.lookup.lesser as less
-use Rattle.ledger.proofs.lookup.lesser.Symbol as less-def
-use Rattle.ledger.proofs.lookup.lesser.Symbol.{name as #less}
-use Rattle.ledger.proofs.lookup.lesser.Met as less-thm
+use Rattle.ledger_lookup.proofs.lookup.lesser as less
+use Rattle.ledger_lookup.proofs.lookup.lesser.Symbol as less-def
+use Rattle.ledger_lookup.proofs.lookup.lesser.Symbol.{name as #less}
+use Rattle.ledger_lookup.proofs.lookup.lesser.Met as less-thm
 use Rattle.ledger_registries.proofs.registries.find_registry as find
 use Rattle.ledger_registries.proofs.registries.find_registry.Symbol as find-def
 use Rattle.ledger_registries.proofs.registries.find_registry.Symbol.{name as #find}
 use Rattle.ledger_registries.proofs.registries.find_registry.Met as find-thm
-use Rattle.ledger.proofs.lookup.is_found as test
-use Rattle.ledger.proofs.lookup.is_found.Symbol as test-def
-use Rattle.ledger.proofs.lookup.is_found.Symbol.{name as #test}
-use Rattle.ledger.proofs.lookup.is_found.Met as test-thm
-use Rattle.ledger.proofs.lookup.rows_held.Key.{name as #me}
-use Rattle.ledger.proofs.lookup.rows_held as me
-use Rattle.ledger.proofs.lookup.rows_held.Statement as stated
-use Rattle.ledger.proofs.lookup.rows_held.Code as code
-use Rattle.ledger.proofs.lookup.rows_held.Code.Mir as mirᶠ
+use Rattle.ledger_lookup.proofs.lookup.is_found as test
+use Rattle.ledger_lookup.proofs.lookup.is_found.Symbol as test-def
+use Rattle.ledger_lookup.proofs.lookup.is_found.Symbol.{name as #test}
+use Rattle.ledger_lookup.proofs.lookup.is_found.Met as test-thm
+use Rattle.ledger_lookup.proofs.lookup.rows_held.Key.{name as #me}
+use Rattle.ledger_lookup.proofs.lookup.rows_held as me
+use Rattle.ledger_lookup.proofs.lookup.rows_held.Statement as stated
+use Rattle.ledger_lookup.proofs.lookup.rows_held.Code as code
+use Rattle.ledger_lookup.proofs.lookup.rows_held.Code.Mir as mirᶠ
 
 abbrev stayed : Stays (me.ended .signature .params) (me.ended .kept)
 stayed = (stay-none-slice (0 ∷ []) tt (plain (λ _. G.the-row)) yes, (stay-none (λ _. usize) yes, (stay-none-slice (0 ∷ []) tt (plain (λ _. T.the-row)) yes, (stay-none (λ _. usize) yes, tt))))
@@ -318,6 +318,6 @@ rows-held-spec 𝓤 H 𝓜 𝓖 𝓡 =
     entered 𝓤 H (tripleOf 𝓤 H (𝓖 .A) me.signature (me.spec 𝓤 H (𝓖 .A) (𝓜 .mem) (𝓡 .run)))
     (tables 𝓤 H 𝓜 𝓡 code.env .C) (tables 𝓤 H 𝓜 𝓡 code.env .Λ) #me code.function (code.unfolded 𝓤 H 𝓜 𝓡)
     (me-meets 𝓤 H (𝓖 .A) (givenOf 𝓤 H 𝓜 𝓖) (𝓜 .mem) (𝓡 .run) (tablesOf 𝓤 H 𝓜 (tables 𝓤 H 𝓜 𝓡 code.env))
-    (cited 𝓤 H (Lesser 𝓤 H (𝓖 .A) (𝓜 .mem) (𝓡 .run)) 𝓜 𝓡 code.env #less less-def.routine code.calls-ledger·lookup·lesser (less-thm.met 𝓤 H 𝓜 𝓖 𝓡))
+    (cited 𝓤 H (Lesser 𝓤 H (𝓖 .A) (𝓜 .mem) (𝓡 .run)) 𝓜 𝓡 code.env #less less-def.routine code.calls-ledger-lookup·lookup·lesser (less-thm.met 𝓤 H 𝓜 𝓖 𝓡))
     (cited 𝓤 H (FindRegistry 𝓤 H (𝓖 .A) (𝓜 .mem) (𝓡 .run)) 𝓜 𝓡 code.env #find find-def.routine code.calls-ledger-registries·registries·find-registry (find-thm.met 𝓤 H 𝓜 𝓖 𝓡))
-    (cited 𝓤 H (IsFound 𝓤 H (𝓖 .A) (𝓜 .mem) (𝓡 .run)) 𝓜 𝓡 code.env #test test-def.routine code.calls-ledger·lookup·is-found (test-thm.met 𝓤 H 𝓜 𝓖 𝓡)))
+    (cited 𝓤 H (IsFound 𝓤 H (𝓖 .A) (𝓜 .mem) (𝓡 .run)) 𝓜 𝓡 code.env #test test-def.routine code.calls-ledger-lookup·lookup·is-found (test-thm.met 𝓤 H 𝓜 𝓖 𝓡)))

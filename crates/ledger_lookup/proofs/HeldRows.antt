@@ -20,7 +20,7 @@ use Rattle.registry_state.proofs.StateLoops.{all-pass, all-fail}
 use Rattle.ledger_step.specs.Ledgers.{Held, heldOf, idOf, hasRegistry}
 use Rattle.ledger_step.proofs.PlaceLaws.{has-place}
 use Rattle.ledger_registries.specs.Registries.{noHeld, findRegistry}
-use Rattle.ledger.specs.Lookups.{rowsHeld}
+use Rattle.ledger_lookup.specs.Lookups.{rowsHeld}
 
 module _ (gs : List RegistryState) (m : ℕ) (ws : List CredentialState) (n : ℕ) where
   abbrev ids : List Said

@@ -44,37 +44,37 @@ use Rattle.registry_state.specs.declared.state.RegistryState.{RegistryState}
 use Rattle.registry_state.specs.declared.state.CredentialState.{CredentialState}
 use Rattle.ledger_step.specs.Ledgers.{lentLedger, sound, lookUp}
 use Rattle.ledger_rows.specs.Rows.{rowAt}
-use Rattle.ledger.specs.Lookups.{pairOf, findRow, viewLookedUp, lookedUpOf}
-use Rattle.ledger.specs.declared.lookup.LookedUp.{LookedUp as Answered}
-use Rattle.ledger.proofs.Found.{looked-up}
+use Rattle.ledger_lookup.specs.Lookups.{pairOf, findRow, viewLookedUp, lookedUpOf}
+use Rattle.ledger_lookup.specs.declared.lookup.LookedUp.{LookedUp as Answered}
+use Rattle.ledger_lookup.proofs.Found.{looked-up}
 use Rattle.cesr.proofs.primitive.Said as S
 use Rattle.cesr.proofs.primitive.Said.Laws as S′
 use Rattle.registry_state.proofs.state.RegistryState as G
 use Rattle.registry_state.proofs.state.CredentialState as T
 use Rattle.registry_state.proofs.state.CredentialState.Laws as T′
-use Rattle.ledger.proofs.lookup.LookedUp as P
-use Rattle.ledger.proofs.lookup.LookedUp.Laws as P′
-use Rattle.ledger.proofs.lookup.sound as check
-use Rattle.ledger.proofs.lookup.sound.Symbol as check-def
-use Rattle.ledger.proofs.lookup.sound.Symbol.{name as #check}
-use Rattle.ledger.proofs.lookup.sound.Met as check-thm
-use Rattle.ledger.proofs.stubs.find_at as find
-use Rattle.ledger.proofs.stubs.find_at.Symbol as find-def
-use Rattle.ledger.proofs.stubs.find_at.Symbol.{name as #find}
-use Rattle.ledger.proofs.stubs.find_at.Met as find-thm
+use Rattle.ledger_lookup.proofs.lookup.LookedUp as P
+use Rattle.ledger_lookup.proofs.lookup.LookedUp.Laws as P′
+use Rattle.ledger_lookup.proofs.lookup.sound as check
+use Rattle.ledger_lookup.proofs.lookup.sound.Symbol as check-def
+use Rattle.ledger_lookup.proofs.lookup.sound.Symbol.{name as #check}
+use Rattle.ledger_lookup.proofs.lookup.sound.Met as check-thm
+use Rattle.ledger_lookup.proofs.stubs.find_at as find
+use Rattle.ledger_lookup.proofs.stubs.find_at.Symbol as find-def
+use Rattle.ledger_lookup.proofs.stubs.find_at.Symbol.{name as #find}
+use Rattle.ledger_lookup.proofs.stubs.find_at.Met as find-thm
 use Rattle.ledger_rows.proofs.rows.read_row as read
 use Rattle.ledger_rows.proofs.rows.read_row.Symbol as read-def
 use Rattle.ledger_rows.proofs.rows.read_row.Symbol.{name as #read}
 use Rattle.ledger_rows.proofs.rows.read_row.Met as read-thm
-use Rattle.ledger.proofs.lookup.standing as answer
-use Rattle.ledger.proofs.lookup.standing.Symbol as answer-def
-use Rattle.ledger.proofs.lookup.standing.Symbol.{name as #answer}
-use Rattle.ledger.proofs.lookup.standing.Met as answer-thm
-use Rattle.ledger.proofs.lookup.look_up.Key.{name as #me}
-use Rattle.ledger.proofs.lookup.look_up as me
-use Rattle.ledger.proofs.lookup.look_up.Statement as stated
-use Rattle.ledger.proofs.lookup.look_up.Code as code
-use Rattle.ledger.proofs.lookup.look_up.Code.Mir as mirᶠ
+use Rattle.ledger_lookup.proofs.lookup.standing as answer
+use Rattle.ledger_lookup.proofs.lookup.standing.Symbol as answer-def
+use Rattle.ledger_lookup.proofs.lookup.standing.Symbol.{name as #answer}
+use Rattle.ledger_lookup.proofs.lookup.standing.Met as answer-thm
+use Rattle.ledger_lookup.proofs.lookup.look_up.Key.{name as #me}
+use Rattle.ledger_lookup.proofs.lookup.look_up as me
+use Rattle.ledger_lookup.proofs.lookup.look_up.Statement as stated
+use Rattle.ledger_lookup.proofs.lookup.look_up.Code as code
+use Rattle.ledger_lookup.proofs.lookup.look_up.Code.Mir as mirᶠ
 
 abbrev stayed : Stays (me.ended .signature .params) (me.ended .kept)
 stayed = (stay-none-slice (0 ∷ []) tt (plain (λ _. G.the-row)) yes, (stay-none (λ _. usize) yes, (stay-none-slice (0 ∷ []) tt (plain (λ _. T.the-row)) yes, (stay-none (λ _. usize) yes, (stay-none (λ _. S.the-row) yes, (stay-none (λ _. S.the-row) yes, tt))))))
@@ -152,7 +152,7 @@ module _ {M : Type 1} (𝓤 : URA M) (H : Heap 𝓤) (A : Atoms 𝓤) (W : Given
   goes-check = qed W (‵ (flft κ q) ∷ ‵ Own-gs ∷ ‵ Own-ws ∷ []) ∵ nothing ! $ move ! (1 ∷ 0 ∷ []) $ join ! $ nothing ! $ owned ! usize (Is usize) (uint-makes 𝓤 H A W w64) n _ (refl, is-n) $ fjoin ! $ move ! (3 ∷ 0 ∷ []) $ fjoin ! $ owned ! usize (Is usize) (uint-makes 𝓤 H A W w64) m _ (refl, is-m) $ fjoin ! $ move ! (2 ∷ 0 ∷ []) $ fjoin ! $ move ! (1 ∷ 0 ∷ []) $ join ! $ nothing ! $ move ! (1 ∷ 0 ∷ []) $ frame ! $ done !
 
   said-check : (r : Bool) → ent 𝓤 (ensured 𝓤 H A check.ended (check.clauses 𝓤 H A mem run) (κ, tt) arg-check tt r) (fact 𝓤 (r ≡ ok))
-  said-check r = exE 𝓤 _ (λ ws. snd∗ 𝓤 (sem 𝓤 H A (lasts check.ended (κ, tt) arg-check ws)) (fact 𝓤 (r ≡ ok)))
+  said-check r = exE 𝓤 _ (λ lasting. snd∗ 𝓤 (sem 𝓤 H A (lasts check.ended (κ, tt) arg-check lasting)) (fact 𝓤 (r ≡ ok)))
 
   -- ---- the call of `find_at`
   abbrev arg-find : RefT (List CredentialState) × (ℕ × (Said × (Said × Unit {0})))
@@ -165,7 +165,7 @@ module _ {M : Type 1} (𝓤 : URA M) (H : Heap 𝓤) (A : Atoms 𝓤) (W : Given
   goes-find = qed W (‵ (flft κ q) ∷ ‵ Own-ws ∷ []) ∵ nothing ! $ move ! (1 ∷ 0 ∷ []) $ join ! $ nothing ! $ owned ! S.the-row (Is S.the-row) ((LL.makes S.the-type S′.the-plain) 𝓤 H A) cred _ is-cred $ fjoin ! $ owned ! S.the-row (Is S.the-row) ((LL.makes S.the-type S′.the-plain) 𝓤 H A) reg _ is-reg $ fjoin ! $ owned ! usize (Is usize) (uint-makes 𝓤 H A W w64) n _ (refl, is-n) $ fjoin ! $ move ! (2 ∷ 0 ∷ []) $ fjoin ! $ move ! (1 ∷ 0 ∷ []) $ join ! $ nothing ! $ move ! (1 ∷ 0 ∷ []) $ frame ! $ done !
 
   said-find : (r : ℕ) → ent 𝓤 (ensured 𝓤 H A find.ended (find.clauses 𝓤 H A mem run) (κ, tt) arg-find tt r) (fact 𝓤 (r ≡ i))
-  said-find r = exE 𝓤 _ (λ ws. snd∗ 𝓤 (sem 𝓤 H A (lasts find.ended (κ, tt) arg-find ws)) (fact 𝓤 (r ≡ i)))
+  said-find r = exE 𝓤 _ (λ lasting. snd∗ 𝓤 (sem 𝓤 H A (lasts find.ended (κ, tt) arg-find lasting)) (fact 𝓤 (r ≡ i)))
 
   -- ---- the call of `read_row`
   abbrev arg-read : RefT (List CredentialState) × (ℕ × Unit {0})
@@ -178,7 +178,7 @@ module _ {M : Type 1} (𝓤 : URA M) (H : Heap 𝓤) (A : Atoms 𝓤) (W : Given
   goes-read is-find = qed W (‵ (flft κ q) ∷ ‵ Own-ws ∷ []) ∵ nothing ! $ move ! (1 ∷ 0 ∷ []) $ join ! $ nothing ! $ owned ! usize (Is usize) (uint-makes 𝓤 H A W w64) i _ (refl, is-find) $ fjoin ! $ move ! (2 ∷ 0 ∷ []) $ fjoin ! $ move ! (1 ∷ 0 ∷ []) $ join ! $ nothing ! $ move ! (1 ∷ 0 ∷ []) $ frame ! $ done !
 
   said-read : (r : CredentialState) → ent 𝓤 (ensured 𝓤 H A read.ended (read.clauses 𝓤 H A mem run) (κ, tt) arg-read tt r) (fact 𝓤 (r ≡ row))
-  said-read r = exE 𝓤 _ (λ ws. snd∗ 𝓤 (sem 𝓤 H A (lasts read.ended (κ, tt) arg-read ws)) (fact 𝓤 (r ≡ row)))
+  said-read r = exE 𝓤 _ (λ lasting. snd∗ 𝓤 (sem 𝓤 H A (lasts read.ended (κ, tt) arg-read lasting)) (fact 𝓤 (r ≡ row)))
 
   -- ---- the call of `standing`
   abbrev arg-answer : Bool × (ℕ × (ℕ × (CredentialState × (Said × (Said × Unit {0})))))
@@ -191,7 +191,7 @@ module _ {M : Type 1} (𝓤 : URA M) (H : Heap 𝓤) (A : Atoms 𝓤) (W : Given
   goes-answer is-find is-read = qed W [] ∵ nothing ! $ owned ! S.the-row (Is S.the-row) ((LL.makes S.the-type S′.the-plain) 𝓤 H A) cred _ is-cred $ fjoin ! $ owned ! S.the-row (Is S.the-row) ((LL.makes S.the-type S′.the-plain) 𝓤 H A) reg _ is-reg $ fjoin ! $ owned ! T.the-row (Is T.the-row) ((LL.makes T.the-type T′.the-plain) 𝓤 H A) row _ is-read $ fjoin ! $ owned ! usize (Is usize) (uint-makes 𝓤 H A W w64) n _ (refl, is-n) $ fjoin ! $ owned ! usize (Is usize) (uint-makes 𝓤 H A W w64) i _ (refl, is-find) $ fjoin ! $ owned ! Boolean (Is Boolean) (bool-makes 𝓤 H A W) ok _ refl $ fjoin ! $ nothing ! $ join ! $ nothing ! $ move ! (1 ∷ 0 ∷ []) $ frame ! $ done !
 
   said-answer : (r : Answered) → ent 𝓤 (ensured 𝓤 H A answer.ended (answer.clauses 𝓤 H A mem run) tt arg-answer tt r) (fact 𝓤 (viewLookedUp r ≡ lookedUpOf ok i n row (pairOf reg cred)))
-  said-answer r = exE 𝓤 _ (λ ws. snd∗ 𝓤 (sem 𝓤 H A (lasts answer.ended tt arg-answer ws)) (fact 𝓤 (viewLookedUp r ≡ lookedUpOf ok i n row (pairOf reg cred))))
+  said-answer r = exE 𝓤 _ (λ lasting. snd∗ 𝓤 (sem 𝓤 H A (lasts answer.ended tt arg-answer lasting)) (fact 𝓤 (viewLookedUp r ≡ lookedUpOf ok i n row (pairOf reg cred))))
 
   exits : (r : Answered) → viewLookedUp r ≡ lookedUpOf ok i n row (pairOf reg cred) → (Is P.the-row r (P′.lowered r ∷ [])) → ent 𝓤 (⋆ 𝓤 H A (‵ (flft κ q) ∷ ‵ Own-gs ∷ ‵ Own-ws ∷ [])) (Post (P′.lowered r))
   exits r e g =
@@ -274,7 +274,7 @@ look-up-spec 𝓤 H 𝓜 𝓖 𝓡 =
     entered 𝓤 H (tripleOf 𝓤 H (𝓖 .A) me.signature (me.spec 𝓤 H (𝓖 .A) (𝓜 .mem) (𝓡 .run)))
     (tables 𝓤 H 𝓜 𝓡 code.env .C) (tables 𝓤 H 𝓜 𝓡 code.env .Λ) #me code.function (code.unfolded 𝓤 H 𝓜 𝓡)
     (me-meets 𝓤 H (𝓖 .A) (givenOf 𝓤 H 𝓜 𝓖) (𝓜 .mem) (𝓡 .run) (tablesOf 𝓤 H 𝓜 (tables 𝓤 H 𝓜 𝓡 code.env))
-    (cited 𝓤 H (Sound 𝓤 H (𝓖 .A) (𝓜 .mem) (𝓡 .run)) 𝓜 𝓡 code.env #check check-def.routine code.calls-ledger·lookup·sound (check-thm.met 𝓤 H 𝓜 𝓖 𝓡))
-    (cited 𝓤 H (FindAt 𝓤 H (𝓖 .A) (𝓜 .mem) (𝓡 .run)) 𝓜 𝓡 code.env #find find-def.routine code.calls-ledger·stubs·find-at (find-thm.met 𝓤 H 𝓜 𝓖 𝓡))
+    (cited 𝓤 H (Sound 𝓤 H (𝓖 .A) (𝓜 .mem) (𝓡 .run)) 𝓜 𝓡 code.env #check check-def.routine code.calls-ledger-lookup·lookup·sound (check-thm.met 𝓤 H 𝓜 𝓖 𝓡))
+    (cited 𝓤 H (FindAt 𝓤 H (𝓖 .A) (𝓜 .mem) (𝓡 .run)) 𝓜 𝓡 code.env #find find-def.routine code.calls-ledger-lookup·stubs·find-at (find-thm.met 𝓤 H 𝓜 𝓖 𝓡))
     (cited 𝓤 H (ReadRow 𝓤 H (𝓖 .A) (𝓜 .mem) (𝓡 .run)) 𝓜 𝓡 code.env #read read-def.routine code.calls-ledger-rows·rows·read-row (read-thm.met 𝓤 H 𝓜 𝓖 𝓡))
-    (cited 𝓤 H (Standing 𝓤 H (𝓖 .A) (𝓜 .mem) (𝓡 .run)) 𝓜 𝓡 code.env #answer answer-def.routine code.calls-ledger·lookup·standing (answer-thm.met 𝓤 H 𝓜 𝓖 𝓡)))
+    (cited 𝓤 H (Standing 𝓤 H (𝓖 .A) (𝓜 .mem) (𝓡 .run)) 𝓜 𝓡 code.env #answer answer-def.routine code.calls-ledger-lookup·lookup·standing (answer-thm.met 𝓤 H 𝓜 𝓖 𝓡)))

@@ -20,7 +20,7 @@ use Rattle.ledger_step.specs.Ledgers.{Ledger, LookedUp, lentLedger, sound, eqPa
 use Rattle.ledger_step.proofs.PlaceLaws.{find-place}
 use Rattle.ledger_step.proofs.Rules.{Keeps, parts}
 use Rattle.ledger_rows.specs.Rows as R
-use Rattle.ledger.specs.Lookups.{pairOf, findRow, lookedUpOf}
+use Rattle.ledger_lookup.specs.Lookups.{pairOf, findRow, lookedUpOf}
 
 pub below-both : (a b c : ℕ) → (ltb a b && ltb a c) ≡ ltb a (min b c)
 below-both a b c = go (ltb a b) (ltb a c) refl refl

@@ -13,7 +13,7 @@ use Rattle.registry_state.specs.declared.state.CredentialState.{CredentialState
 use Rattle.registry_laws.specs.Pairs.{Pair, keyOf}
 use Rattle.ledger_step.specs.Tables.{place}
 use Rattle.ledger_step.specs.Ledgers.{heldOf, idOf, eqPair, hasRegistry, LookedUp, standingOf, wellPair}
-use Rattle.ledger.specs.declared.lookup.LookedUp as Code
+use Rattle.ledger_lookup.specs.declared.lookup.LookedUp as Code
 
 -- the key of a row
 abbrev pub pairOf : Said → Said → Pair

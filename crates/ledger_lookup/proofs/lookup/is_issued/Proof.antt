@@ -1,9 +1,9 @@
 use mathlib.Core.Path.{_∙_}
 use borrow.Author.Needs.{needs}
 use Rattle.cesr.specs.Numbers.{value}
-use Rattle.ledger.proofs.Found.{zero-below}
-use Rattle.ledger.proofs.lookup.is_issued.Statement.{statement}
-use Rattle.ledger.proofs.lookup.is_issued.Tie as tie
+use Rattle.ledger_lookup.proofs.Found.{zero-below}
+use Rattle.ledger_lookup.proofs.lookup.is_issued.Statement.{statement}
+use Rattle.ledger_lookup.proofs.lookup.is_issued.Tie as tie
 
 less-requires : tie.Need-less-requires
 less-requires c κs = search needs

@@ -3,7 +3,7 @@ use registry_state::state::CredentialState;
 ghost use mathlib.Core.Path.{_≡_};
 ghost use lib.ListN.{length, take};
 ghost use Rattle.ledger_step.specs.Ledgers.{holds, rowRules};
-ghost use Rattle.ledger.specs.Lookups.{findRow};
+ghost use Rattle.ledger_lookup.specs.Lookups.{findRow};
 
 pub fn find_at(rows: &[CredentialState], count: usize, registry: Said, credential: Said) -> usize
     ensures { λ r. ⌜ r ≡ findRow (now (rows .entry)) count registry credential ⌝ }

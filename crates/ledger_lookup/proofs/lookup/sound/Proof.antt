@@ -42,26 +42,26 @@ use Rattle.registry_state.specs.declared.state.RegistryState.{RegistryState}
 use Rattle.registry_state.specs.declared.state.CredentialState.{CredentialState}
 use Rattle.ledger_step.specs.Ledgers.{heldOf, holds, registryRules, rowRules, lentLedger, sound}
 use Rattle.ledger_step.proofs.SoundParts.{sound-parts}
-use Rattle.ledger.specs.Lookups.{rowsHeld}
+use Rattle.ledger_lookup.specs.Lookups.{rowsHeld}
 use Rattle.registry_state.proofs.state.RegistryState as G
 use Rattle.registry_state.proofs.state.CredentialState as T
 use Rattle.ledger_registries.proofs.registries.registries_sound as first
 use Rattle.ledger_registries.proofs.registries.registries_sound.Symbol as first-def
 use Rattle.ledger_registries.proofs.registries.registries_sound.Symbol.{name as #first}
 use Rattle.ledger_registries.proofs.registries.registries_sound.Met as first-thm
-use Rattle.ledger.proofs.stubs.rows_sound as second
-use Rattle.ledger.proofs.stubs.rows_sound.Symbol as second-def
-use Rattle.ledger.proofs.stubs.rows_sound.Symbol.{name as #second}
-use Rattle.ledger.proofs.stubs.rows_sound.Met as second-thm
-use Rattle.ledger.proofs.lookup.rows_held as third
-use Rattle.ledger.proofs.lookup.rows_held.Symbol as third-def
-use Rattle.ledger.proofs.lookup.rows_held.Symbol.{name as #third}
-use Rattle.ledger.proofs.lookup.rows_held.Met as third-thm
-use Rattle.ledger.proofs.lookup.sound.Key.{name as #me}
-use Rattle.ledger.proofs.lookup.sound as me
-use Rattle.ledger.proofs.lookup.sound.Statement as stated
-use Rattle.ledger.proofs.lookup.sound.Code as code
-use Rattle.ledger.proofs.lookup.sound.Code.Mir as mirᶠ
+use Rattle.ledger_lookup.proofs.stubs.rows_sound as second
+use Rattle.ledger_lookup.proofs.stubs.rows_sound.Symbol as second-def
+use Rattle.ledger_lookup.proofs.stubs.rows_sound.Symbol.{name as #second}
+use Rattle.ledger_lookup.proofs.stubs.rows_sound.Met as second-thm
+use Rattle.ledger_lookup.proofs.lookup.rows_held as third
+use Rattle.ledger_lookup.proofs.lookup.rows_held.Symbol as third-def
+use Rattle.ledger_lookup.proofs.lookup.rows_held.Symbol.{name as #third}
+use Rattle.ledger_lookup.proofs.lookup.rows_held.Met as third-thm
+use Rattle.ledger_lookup.proofs.lookup.sound.Key.{name as #me}
+use Rattle.ledger_lookup.proofs.lookup.sound as me
+use Rattle.ledger_lookup.proofs.lookup.sound.Statement as stated
+use Rattle.ledger_lookup.proofs.lookup.sound.Code as code
+use Rattle.ledger_lookup.proofs.lookup.sound.Code.Mir as mirᶠ
 
 abbrev stayed : Stays (me.ended .signature .params) (me.ended .kept)
 stayed = (stay-none-slice (0 ∷ []) tt (plain (λ _. G.the-row)) yes, (stay-none (λ _. usize) yes, (stay-none-slice (0 ∷ []) tt (plain (λ _. T.the-row)) yes, (stay-none (λ _. usize) yes, tt))))
@@ -144,7 +144,7 @@ module _ {M : Type 1} (𝓤 : URA M) (H : Heap 𝓤) (A : Atoms 𝓤) (W : Given
   goes-first = qed W (‵ (flft κ q) ∷ ‵ Own-gs ∷ []) ∵ nothing ! $ move ! (1 ∷ 0 ∷ []) $ join ! $ nothing ! $ owned ! usize (Is usize) (uint-makes 𝓤 H A W w64) m _ (refl, is-m) $ fjoin ! $ move ! (2 ∷ 0 ∷ []) $ fjoin ! $ move ! (1 ∷ 0 ∷ []) $ join ! $ nothing ! $ move ! (1 ∷ 0 ∷ []) $ frame ! $ done !
 
   said-first : (r : Bool) → ent 𝓤 (ensured 𝓤 H A first.ended (first.clauses 𝓤 H A mem run) (κ, tt) arg-first tt r) (fact 𝓤 (r ≡ of-registries))
-  said-first r = exE 𝓤 _ (λ ws. snd∗ 𝓤 (sem 𝓤 H A (lasts first.ended (κ, tt) arg-first ws)) (fact 𝓤 (r ≡ of-registries)))
+  said-first r = exE 𝓤 _ (λ lasting. snd∗ 𝓤 (sem 𝓤 H A (lasts first.ended (κ, tt) arg-first lasting)) (fact 𝓤 (r ≡ of-registries)))
 
   -- ---- the call of `rows_sound`
   abbrev arg-second : RefT (List CredentialState) × (ℕ × Unit {0})
@@ -157,7 +157,7 @@ module _ {M : Type 1} (𝓤 : URA M) (H : Heap 𝓤) (A : Atoms 𝓤) (W : Given
   goes-second = qed W (‵ (flft κ q) ∷ ‵ Own-ws ∷ []) ∵ nothing ! $ move ! (1 ∷ 0 ∷ []) $ join ! $ nothing ! $ owned ! usize (Is usize) (uint-makes 𝓤 H A W w64) n _ (refl, is-n) $ fjoin ! $ move ! (2 ∷ 0 ∷ []) $ fjoin ! $ move ! (1 ∷ 0 ∷ []) $ join ! $ nothing ! $ move ! (1 ∷ 0 ∷ []) $ frame ! $ done !
 
   said-second : (r : Bool) → ent 𝓤 (ensured 𝓤 H A second.ended (second.clauses 𝓤 H A mem run) (κ, tt) arg-second tt r) (fact 𝓤 (r ≡ of-rows))
-  said-second r = exE 𝓤 _ (λ ws. snd∗ 𝓤 (sem 𝓤 H A (lasts second.ended (κ, tt) arg-second ws)) (fact 𝓤 (r ≡ of-rows)))
+  said-second r = exE 𝓤 _ (λ lasting. snd∗ 𝓤 (sem 𝓤 H A (lasts second.ended (κ, tt) arg-second lasting)) (fact 𝓤 (r ≡ of-rows)))
 
   -- ---- the call of `rows_held`
   abbrev arg-third : RefT (List RegistryState) × (ℕ × (RefT (List CredentialState) × (ℕ × Unit {0})))
@@ -170,7 +170,7 @@ module _ {M : Type 1} (𝓤 : URA M) (H : Heap 𝓤) (A : Atoms 𝓤) (W : Given
   goes-third = qed W (‵ (flft κ q) ∷ ‵ Own-gs ∷ ‵ Own-ws ∷ []) ∵ nothing ! $ move ! (1 ∷ 0 ∷ []) $ join ! $ nothing ! $ owned ! usize (Is usize) (uint-makes 𝓤 H A W w64) n _ (refl, is-n) $ fjoin ! $ move ! (3 ∷ 0 ∷ []) $ fjoin ! $ owned ! usize (Is usize) (uint-makes 𝓤 H A W w64) m _ (refl, is-m) $ fjoin ! $ move ! (2 ∷ 0 ∷ []) $ fjoin ! $ move ! (1 ∷ 0 ∷ []) $ join ! $ nothing ! $ move ! (1 ∷ 0 ∷ []) $ frame ! $ done !
 
   said-third : (r : Bool) → ent 𝓤 (ensured 𝓤 H A third.ended (third.clauses 𝓤 H A mem run) (κ, tt) arg-third tt r) (fact 𝓤 (r ≡ of-both))
-  said-third r = exE 𝓤 _ (λ ws. snd∗ 𝓤 (sem 𝓤 H A (lasts third.ended (κ, tt) arg-third ws)) (fact 𝓤 (r ≡ of-both)))
+  said-third r = exE 𝓤 _ (λ lasting. snd∗ 𝓤 (sem 𝓤 H A (lasts third.ended (κ, tt) arg-third lasting)) (fact 𝓤 (r ≡ of-both)))
 
   exits : ent 𝓤 (⋆ 𝓤 H A (‵ (flft κ q) ∷ ‵ Own-gs ∷ ‵ Own-ws ∷ [])) (Post (vbool result))
   exits =
@@ -250,5 +250,5 @@ sound-spec 𝓤 H 𝓜 𝓖 𝓡 =
     (tables 𝓤 H 𝓜 𝓡 code.env .C) (tables 𝓤 H 𝓜 𝓡 code.env .Λ) #me code.function (code.unfolded 𝓤 H 𝓜 𝓡)
     (me-meets 𝓤 H (𝓖 .A) (givenOf 𝓤 H 𝓜 𝓖) (𝓜 .mem) (𝓡 .run) (tablesOf 𝓤 H 𝓜 (tables 𝓤 H 𝓜 𝓡 code.env))
     (cited 𝓤 H (RegistriesSound 𝓤 H (𝓖 .A) (𝓜 .mem) (𝓡 .run)) 𝓜 𝓡 code.env #first first-def.routine code.calls-ledger-registries·registries·registries-sound (first-thm.met 𝓤 H 𝓜 𝓖 𝓡))
-    (cited 𝓤 H (RowsSound 𝓤 H (𝓖 .A) (𝓜 .mem) (𝓡 .run)) 𝓜 𝓡 code.env #second second-def.routine code.calls-ledger·stubs·rows-sound (second-thm.met 𝓤 H 𝓜 𝓖 𝓡))
-    (cited 𝓤 H (RowsHeld 𝓤 H (𝓖 .A) (𝓜 .mem) (𝓡 .run)) 𝓜 𝓡 code.env #third third-def.routine code.calls-ledger·lookup·rows-held (third-thm.met 𝓤 H 𝓜 𝓖 𝓡)))
+    (cited 𝓤 H (RowsSound 𝓤 H (𝓖 .A) (𝓜 .mem) (𝓡 .run)) 𝓜 𝓡 code.env #second second-def.routine code.calls-ledger-lookup·stubs·rows-sound (second-thm.met 𝓤 H 𝓜 𝓖 𝓡))
+    (cited 𝓤 H (RowsHeld 𝓤 H (𝓖 .A) (𝓜 .mem) (𝓡 .run)) 𝓜 𝓡 code.env #third third-def.routine code.calls-ledger-lookup·lookup·rows-held (third-thm.met 𝓤 H 𝓜 𝓖 𝓡)))

@@ -14,7 +14,7 @@ ghost use mathlib.Core.Bool.{_&&_};
 ghost use lib.Dec.{eqb, ltb};
 ghost use Rattle.cesr.specs.Numbers.{value};
 ghost use Rattle.ledger_step.specs.Ledgers.{lentLedger, sound, wellPair, lookUp};
-ghost use Rattle.ledger.specs.Lookups.{rowsHeld, viewLookedUp, pairOf, lookedUpOf};
+ghost use Rattle.ledger_lookup.specs.Lookups.{rowsHeld, viewLookedUp, pairOf, lookedUpOf};
 
 // Whether a search among the first `count` of `len` states ended before the last of them.
 fn is_found(at: usize, count: usize, len: usize) -> bool
