@@ -1,0 +1,96 @@
+-- What a condition, or a difference, comes to for the bytes of two messages within the limits, exchanged.
+--     two-numbers                       the numbers of the run
+--     inceptions, heads, rotations, pairs, rows    the five conditions
+--     runs-differ                       runs whose numbers differ at the places of one attempt
+use Prim.Native.Nat.{ℕ, zero, suc, _+_, _-_, _≤_, _<_}
+use mathlib.Core.Path.{_≡_, refl, sym, ap, _∙_}
+use mathlib.Core.Logic.{_≢_}
+use mathlib.Core.Bool.{true, false}
+use mathlib.Core.Option.{Option, none, some, Option·map, Option·none-ne-some, Option·some-injective}
+use mathlib.Core.List.{List, [], _∷_, map}
+use native.Mathlib.Omega.{arith}
+use borrow.Author.Tests.{leb-true}
+use lib.Dec.{leb}
+use lib.ListN.{length, getElem?}
+use Rattle.registry_wire.specs.Attempts.{Message, attemptBytes, goodMessage}
+use Rattle.registry_laws.specs.Pairs.{Pair}
+use Rattle.ledger_step.specs.Ledgers.{Ledger, sound}
+use Rattle.ledger_step.specs.Steps.{Request, eventRequest, requestOf}
+use Rattle.ledger_step.specs.Orders.{Each, Matched, KeepsOrder}
+use Rattle.ledger_step.specs.OrderFreedom.{Result, resultsOf, newPairBy, once, newPairs, SameRuns}
+use Rattle.ledger_examples.specs.Conditions.{Condition, isInception, byHead, rotates, names, Holds, numbersOf, bytesOf, Needed}
+use Rattle.ledger_examples.specs.Conditions.Condition.{noInceptions, noPresentHeads, rotationsInOrder, pairsInOrder, room}
+use Rattle.ledger_examples.proofs.Asked.{asks, numbersBy, numbers-by}
+use Rattle.ledger_examples.proofs.Exchanges.{exchanged, keeps, both}
+
+-- no class has both
+abbrev pub Apart : {K : Type 0} → Option K → Option K → Type 0
+Apart none p = Unit
+Apart (some a) none = Unit
+Apart (some a) (some b) = a ≢ b
+
+apart : {K : Type 0} (o p : Option K) → Apart o p → (k : K) → o ≡ some k → p ≡ some k → ⊥
+apart none p h k e f = Option·none-ne-some _ e
+apart (some a) none h k e f = Option·none-ne-some _ f
+apart (some a) (some b) h k e f = h (Option·some-injective _ _ e ∙ sym (Option·some-injective _ _ f))
+
+map-at : {A B : Type 0} (f : A → B) (l : List A) (i : ℕ) → getElem? (map f l) i ≡ Option·map f (getElem? l i)
+map-at f [] i = refl
+map-at f (x ∷ l) zero = refl
+map-at f (x ∷ l) (suc i) = map-at f l i
+
+pub runs-differ : (l : Ledger) (xs ys : List (List ℕ)) (m : Matched xs ys) (ns ks : List ℕ) → numbersOf l xs ≡ ns → numbersOf l ys ≡ ks → (i n k : ℕ) → i < length xs → getElem? ns i ≡ some n → getElem? ks (m .to i) ≡ some k → n ≢ k → ¬ SameRuns l xs ys m
+runs-differ l xs ys m ns ks e f i n k h p q ne r =
+    let number : Result → ℕ = λ (x : Result). x .number in
+    let a : some n ≡ Option·map number (getElem? (resultsOf l xs) i) = sym p ∙ ap (λ (z : List ℕ). getElem? z i) (sym e) ∙ map-at number (resultsOf l xs) i in
+    let b : some k ≡ Option·map number (getElem? (resultsOf l ys) (m .to i)) = sym q ∙ ap (λ (z : List ℕ). getElem? z (m .to i)) (sym f) ∙ map-at number (resultsOf l ys) (m .to i) in
+    ne (Option·some-injective _ _ (a ∙ ap (Option·map number) (r .results i h) ∙ sym b))
+
+abbrev pub asked : Message → Request
+asked a = eventRequest (a .event) a
+
+abbrev pub matching : (a b : Message) → Matched (bytesOf a b) (bytesOf b a)
+matching a b = exchanged (attemptBytes a) (attemptBytes b)
+
+module _ (a b : Message) (ga : goodMessage a ≡ true) (gb : goodMessage b ≡ true) where
+  pub two-numbers : (l : Ledger) → numbersOf l (bytesOf a b) ≡ numbersBy l (asked a ∷ asked b ∷ [])
+  two-numbers l = numbers-by l (bytesOf a b) ∙ rw (asks a ga, asks b gb)
+
+  each-asks : (P : Request → Type 0) → P (asked a) → P (asked b) → Each (λ s. P (requestOf s)) (bytesOf a b)
+  each-asks P p q = both (attemptBytes a) (attemptBytes b) (λ s. P (requestOf s)) (rw (asks a ga) p) (rw (asks b gb) q)
+
+  kept-by : {K : Type 0} (read : Request → Option K) → Apart (read (asked a)) (read (asked b)) → KeepsOrder (λ s. read (requestOf s)) (matching a b)
+  kept-by read h = keeps (attemptBytes a) (attemptBytes b) (λ s. read (requestOf s)) (apart _ _ (rw (asks a ga, asks b gb) h))
+
+  module _ (l : Ledger) where
+    pub inceptions : isInception (asked a) ≡ false → isInception (asked b) ≡ false → Holds noInceptions l (matching a b)
+    inceptions = each-asks (λ q. isInception q ≡ false)
+
+    pub heads : byHead (asked a) ≡ false → byHead (asked b) ≡ false → Holds noPresentHeads l (matching a b)
+    heads = each-asks (λ q. byHead q ≡ false)
+
+    pub rotations : Apart (rotates (asked a)) (rotates (asked b)) → Holds rotationsInOrder l (matching a b)
+    rotations = kept-by rotates
+
+    pub pairs : Apart (names (asked a)) (names (asked b)) → Holds pairsInOrder l (matching a b)
+    pairs = kept-by names
+
+    pub rows : leb (l .rowCount + length (once (newPairBy l (asked a)) (once (newPairBy l (asked b)) []))) 256 ≡ true → Holds room l (matching a b)
+    unfolding newPairs
+    rows h = rw (asks a ga, asks b gb) (leb-true _ _ h)
+
+-- what is computed of an example: its messages are within the limits, its ledger is sound, and the numbers of the two runs
+pub record Computed (l : Ledger) (a b : Message) (ns ks : List ℕ) : Type 0 where
+  pub good-first : goodMessage a ≡ true
+  pub good-second : goodMessage b ≡ true
+  pub reads : sound l ≡ true
+  pub first : numbersBy l (asked a ∷ asked b ∷ []) ≡ ns
+  pub second : numbersBy l (asked b ∷ asked a ∷ []) ≡ ks
+
+-- so the other conditions are what is left, and the place of an attempt whose numbers differ
+pub needed : (c : Condition) (l : Ledger) (a b : Message) (ns ks : List ℕ) → Computed l a b ns ks → ((d : Condition) → d ≢ c → Holds d l (matching a b)) → (i n k : ℕ) → i < 2 → getElem? ns i ≡ some n → getElem? ks (1 - i) ≡ some k → n ≢ k → Needed c l a b ns ks
+needed c l a b ns ks x others i n k h p q ne =
+    let f = two-numbers a b (x .good-first) (x .good-second) l ∙ x .first in
+    let g = two-numbers b a (x .good-second) (x .good-first) l ∙ x .second in
+    record
+    { reads = x .reads; first = f; second = g; matched = matching a b; others = others; differ = runs-differ l (bytesOf a b) (bytesOf b a) (matching a b) ns ks f g i n k h p q ne }

@@ -1,0 +1,48 @@
+-- What the examples come to, computed.
+use mathlib.Core.Path.{refl}
+use mathlib.Core.List.{[], _∷_}
+use Rattle.laws.specs.First.{first}
+use Rattle.laws.specs.Count.{count}
+use Rattle.cesr.specs.Numbers.{value, snOf}
+use Rattle.cesr.specs.Primitives.{eqMatter, isBasic, isSaid}
+use Rattle.events.specs.Members.{checkMembers, checkDeltas, checkCurrent, check, breaks, has as hasMember}
+use Rattle.events.specs.Toads.{exactOk}
+use Rattle.events_tel.specs.Configs.{noBackers, hasCode}
+use Rattle.codec_cursor.specs.Readers.{isIdentifier}
+use Rattle.codec.specs.Events.{isConfig}
+use Rattle.codec.specs.Layout.{all, goodSaid, goodIdentifier, goodSn, goodToad, goodConfigs, goodPrefixes, isMatter}
+use Rattle.registry_seals.specs.SignatureSections.{goodSignature}
+use Rattle.registry_state.specs.States.{wellCredential}
+use Rattle.registry_wire.specs.Attempts.{goodMessage, goodSource, goodAnchors, goodAnchor}
+use Rattle.registry_error.specs.Answers.{acceptIf, firstOf}
+use Rattle.registry_verification.specs.Receipts.{hasGood, receipts}
+use Rattle.registry_verification.specs.Sequence.{nextSn}
+use Rattle.registry_verification.specs.Updated.{survivors, updatedMembers}
+use Rattle.registry_authentication.specs.Backers.{standsAt, enoughReceipts, backedBy, authenticateBacker}
+use Rattle.registry_authentication.specs.Issuers.{authenticateIssuer}
+use Rattle.registry.specs.RegistryFolds as R
+use Rattle.registry_credential_state.specs.CredentialFolds as C
+use Rattle.registry_laws.specs.ReadingRules.{soundRegistry}
+use Rattle.ledger_step.specs.Tables.{has, distinct, find, put}
+use Rattle.ledger_step.specs.Ledgers.{holds, sound}
+use Rattle.ledger_step.specs.Steps.{effect}
+use Rattle.ledger_examples.specs.Pieces.{inception}
+use Rattle.ledger_examples.specs.Examples.{empty, onePlain, oneBacked, issued, issuedByHead, revoked, firstRotation, secondRotation}
+use Rattle.ledger_examples.proofs.Asked.{numbersBy}
+use Rattle.ledger_examples.proofs.Cases.{Computed}
+
+pub rotations : Computed oneBacked firstRotation secondRotation (0 ∷ 0 ∷ []) (16 ∷ 0 ∷ [])
+unfolding goodMessage all goodSaid goodIdentifier goodSn goodToad goodPrefixes isMatter isBasic isSaid isIdentifier goodSignature goodSource goodAnchors goodAnchor numbersBy effect sound holds distinct has soundRegistry checkMembers check first breaks hasMember exactOk noBackers hasCode find put eqMatter R.ingestMessage R.vrtAnswer firstOf acceptIf nextSn value snOf authenticateIssuer R.vrtBackers checkDeltas checkCurrent updatedMembers survivors R.thresholdFits enoughReceipts receipts hasGood count
+rotations = record { good-first = refl; good-second = refl; reads = refl; first = refl; second = refl }
+
+pub pairs : Computed onePlain issued revoked (0 ∷ 0 ∷ []) (5 ∷ 0 ∷ [])
+unfolding goodMessage all goodSaid goodIdentifier goodSn isMatter isBasic isSaid isIdentifier goodSignature goodSource goodAnchors goodAnchor numbersBy effect sound holds distinct has soundRegistry checkMembers check first exactOk noBackers hasCode find put eqMatter C.inceptMessage C.issAnswer C.ingestMessage C.ingestAnswer C.revAnswer C.transition firstOf acceptIf nextSn value snOf authenticateIssuer wellCredential
+pairs = record { good-first = refl; good-second = refl; reads = refl; first = refl; second = refl }
+
+pub inceptions : Computed empty inception issued (0 ∷ 0 ∷ []) (2 ∷ 0 ∷ [])
+unfolding goodMessage all goodSaid goodIdentifier goodSn goodToad goodConfigs goodPrefixes isConfig isMatter isBasic isSaid isIdentifier goodSignature goodSource goodAnchors goodAnchor numbersBy effect sound holds distinct has soundRegistry checkMembers check first exactOk noBackers hasCode find put eqMatter R.inceptMessage R.inceptAnswer R.vcpAnswer R.thresholdFits enoughReceipts receipts count C.inceptMessage C.issAnswer firstOf acceptIf value authenticateIssuer
+inceptions = record { good-first = refl; good-second = refl; reads = refl; first = refl; second = refl }
+
+pub heads : Computed oneBacked issuedByHead firstRotation (0 ∷ 0 ∷ []) (0 ∷ 23 ∷ [])
+unfolding goodMessage all goodSaid goodIdentifier goodSn goodToad goodPrefixes isMatter isBasic isSaid isIdentifier goodSignature goodSource goodAnchors goodAnchor numbersBy effect sound holds distinct has soundRegistry checkMembers check first breaks hasMember exactOk noBackers hasCode find put eqMatter R.ingestMessage R.vrtAnswer firstOf acceptIf nextSn value snOf authenticateIssuer R.vrtBackers checkDeltas checkCurrent updatedMembers survivors R.thresholdFits enoughReceipts receipts hasGood count C.inceptMessage C.bisAnswer authenticateBacker standsAt backedBy wellCredential
+heads = record { good-first = refl; good-second = refl; reads = refl; first = refl; second = refl }

@@ -1,0 +1,5 @@
+pub mod Asked
+pub mod Cases
+pub mod Computed
+pub mod Exchanged
+pub mod Exchanges

@@ -1,0 +1,50 @@
+-- For each condition of the claim about two orders, two attempts that are answered in another way where they are exchanged, while every
+-- other condition holds (docs/RULES.md, "Two orders").
+use Prim.Native.Nat.{ℕ}
+use mathlib.Core.List.{List, [], _∷_}
+use Rattle.events_tel.specs.TelEvents.{snOne}
+use Rattle.registry_wire.specs.Attempts.{Message}
+use Rattle.ledger_step.specs.Ledgers.{Ledger}
+use Rattle.ledger_examples.specs.Conditions.{Needed}
+use Rattle.ledger_examples.specs.Conditions.Condition.{noInceptions, noPresentHeads, rotationsInOrder, pairsInOrder, room}
+use Rattle.ledger_examples.specs.Pieces.{said, snTwo, credential, backedId, plain, backed, holding, inception, rotation, issue, revocation, issueByHead}
+
+abbrev pub empty : Ledger
+empty = holding [] 0 []
+
+abbrev pub onePlain : Ledger
+onePlain = holding (plain ∷ []) 0 []
+
+abbrev pub oneBacked : Ledger
+oneBacked = holding (backed ∷ []) 0 []
+
+abbrev pub issued : Message
+issued = issue credential (said 11)
+
+abbrev pub issuedByHead : Message
+issuedByHead = issueByHead credential (said 11)
+
+abbrev pub revoked : Message
+revoked = revocation credential (said 11) (said 12)
+
+abbrev pub firstRotation : Message
+firstRotation = rotation backedId snOne (said 11)
+
+abbrev pub secondRotation : Message
+secondRotation = rotation (said 11) snTwo (said 12)
+
+-- a vcp, and an iss of its registry: 2 before it
+abbrev pub InceptionsOut : Type 0
+InceptionsOut = Needed noInceptions empty inception issued (0 ∷ 0 ∷ []) (2 ∷ 0 ∷ [])
+
+-- a bis by the present head, and a vrt of its registry: 23 behind it
+abbrev pub PresentHeadsOut : Type 0
+PresentHeadsOut = Needed noPresentHeads oneBacked issuedByHead firstRotation (0 ∷ 0 ∷ []) (0 ∷ 23 ∷ [])
+
+-- two vrts of one registry: the second is out of order, 16, before the first
+abbrev pub RotationsOrdered : Type 0
+RotationsOrdered = Needed rotationsInOrder oneBacked firstRotation secondRotation (0 ∷ 0 ∷ []) (16 ∷ 0 ∷ [])
+
+-- an iss and a rev of one pair: 5 before it
+abbrev pub PairsOrdered : Type 0
+PairsOrdered = Needed pairsInOrder onePlain issued revoked (0 ∷ 0 ∷ []) (5 ∷ 0 ∷ [])
