@@ -1,5 +1,6 @@
 -- What the examples come to, computed.
-use mathlib.Core.Path.{refl}
+use mathlib.Core.Path.{_≡_, refl}
+use mathlib.Core.Bool.{true}
 use mathlib.Core.List.{[], _∷_}
 use Rattle.laws.specs.First.{first}
 use Rattle.laws.specs.Count.{count}
@@ -14,6 +15,7 @@ use Rattle.codec.specs.Layout.{all, goodSaid, goodIdentifier, goodSn, goodToad,
 use Rattle.registry_seals.specs.SignatureSections.{goodSignature}
 use Rattle.registry_state.specs.States.{wellCredential}
 use Rattle.registry_wire.specs.Attempts.{goodMessage, goodSource, goodAnchors, goodAnchor}
+use Rattle.registry_error.specs.declared.error.RegistryRejection.the-variants.{Malformed}
 use Rattle.registry_error.specs.Answers.{acceptIf, firstOf}
 use Rattle.registry_verification.specs.Receipts.{hasGood, receipts}
 use Rattle.registry_verification.specs.Sequence.{nextSn}
@@ -26,10 +28,11 @@ use Rattle.registry_laws.specs.ReadingRules.{soundRegistry}
 use Rattle.ledger_step.specs.Tables.{has, distinct, find, put}
 use Rattle.ledger_step.specs.Ledgers.{holds, sound}
 use Rattle.ledger_step.specs.Steps.{effect}
+use Rattle.ledger_step.specs.Steps.Request.{nothing}
 use Rattle.ledger_examples.specs.Pieces.{inception}
-use Rattle.ledger_examples.specs.Examples.{empty, onePlain, oneBacked, issued, issuedByHead, revoked, firstRotation, secondRotation}
+use Rattle.ledger_examples.specs.Examples.{empty, onePlain, oneBacked, issued, issuedByHead, revoked, firstRotation, secondRotation, plainAndBacked, absent}
 use Rattle.ledger_examples.proofs.Asked.{numbersBy}
-use Rattle.ledger_examples.proofs.Cases.{Computed}
+use Rattle.ledger_examples.proofs.Cases.{asked, Computed}
 
 pub rotations : Computed oneBacked firstRotation secondRotation (0 ∷ 0 ∷ []) (16 ∷ 0 ∷ [])
 unfolding goodMessage all goodSaid goodIdentifier goodSn goodToad goodPrefixes isMatter isBasic isSaid isIdentifier goodSignature goodSource goodAnchors goodAnchor numbersBy effect sound holds distinct has soundRegistry checkMembers check first breaks hasMember exactOk noBackers hasCode find put eqMatter R.ingestMessage R.vrtAnswer firstOf acceptIf nextSn value snOf authenticateIssuer R.vrtBackers checkDeltas checkCurrent updatedMembers survivors R.thresholdFits enoughReceipts receipts hasGood count
@@ -46,3 +49,19 @@ inceptions = record { good-first = refl; good-second = refl; reads = refl; first
 pub heads : Computed oneBacked issuedByHead firstRotation (0 ∷ 0 ∷ []) (0 ∷ 23 ∷ [])
 unfolding goodMessage all goodSaid goodIdentifier goodSn goodToad goodPrefixes isMatter isBasic isSaid isIdentifier goodSignature goodSource goodAnchors goodAnchor numbersBy effect sound holds distinct has soundRegistry checkMembers check first breaks hasMember exactOk noBackers hasCode find put eqMatter R.ingestMessage R.vrtAnswer firstOf acceptIf nextSn value snOf authenticateIssuer R.vrtBackers checkDeltas checkCurrent updatedMembers survivors R.thresholdFits enoughReceipts receipts hasGood count C.inceptMessage C.bisAnswer authenticateBacker standsAt backedBy wellCredential
 heads = record { good-first = refl; good-second = refl; reads = refl; first = refl; second = refl }
+
+pub good-absent : goodMessage absent ≡ true
+unfolding goodMessage all goodSaid goodIdentifier goodSn isMatter isBasic isSaid isIdentifier goodSignature goodSource goodAnchors goodAnchor
+good-absent = refl
+
+pub met-reads : sound plainAndBacked ≡ true
+unfolding sound holds all distinct has eqMatter soundRegistry checkMembers check first breaks hasMember exactOk noBackers hasCode
+met-reads = refl
+
+pub met-one : numbersBy plainAndBacked (asked firstRotation ∷ asked secondRotation ∷ asked issued ∷ asked revoked ∷ asked absent ∷ nothing Malformed ∷ []) ≡ 0 ∷ 0 ∷ 0 ∷ 0 ∷ 5 ∷ 1 ∷ []
+unfolding numbersBy effect sound holds all distinct has soundRegistry checkMembers check first breaks hasMember exactOk noBackers hasCode find put eqMatter isSaid R.ingestMessage R.vrtAnswer firstOf acceptIf nextSn value snOf authenticateIssuer R.vrtBackers checkDeltas checkCurrent updatedMembers survivors R.thresholdFits enoughReceipts receipts hasGood count C.inceptMessage C.issAnswer C.ingestMessage C.ingestAnswer C.revAnswer C.transition wellCredential
+met-one = refl
+
+pub met-other : numbersBy plainAndBacked (nothing Malformed ∷ asked issued ∷ asked firstRotation ∷ asked absent ∷ asked revoked ∷ asked secondRotation ∷ []) ≡ 1 ∷ 0 ∷ 0 ∷ 5 ∷ 0 ∷ 0 ∷ []
+unfolding numbersBy effect sound holds all distinct has soundRegistry checkMembers check first breaks hasMember exactOk noBackers hasCode find put eqMatter isSaid R.ingestMessage R.vrtAnswer firstOf acceptIf nextSn value snOf authenticateIssuer R.vrtBackers checkDeltas checkCurrent updatedMembers survivors R.thresholdFits enoughReceipts receipts hasGood count C.inceptMessage C.issAnswer C.ingestMessage C.ingestAnswer C.revAnswer C.transition wellCredential
+met-other = refl

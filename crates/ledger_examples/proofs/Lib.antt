@@ -3,3 +3,5 @@ pub mod Cases
 pub mod Computed
 pub mod Exchanged
 pub mod Exchanges
+pub mod MetOrders
+pub mod Reordered

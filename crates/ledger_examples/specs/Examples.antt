@@ -3,9 +3,9 @@
 use Prim.Native.Nat.{ℕ}
 use mathlib.Core.List.{List, [], _∷_}
 use Rattle.events_tel.specs.TelEvents.{snOne}
-use Rattle.registry_wire.specs.Attempts.{Message}
+use Rattle.registry_wire.specs.Attempts.{Message, attemptBytes}
 use Rattle.ledger_step.specs.Ledgers.{Ledger}
-use Rattle.ledger_examples.specs.Conditions.{Needed}
+use Rattle.ledger_examples.specs.Conditions.{Needed, Met}
 use Rattle.ledger_examples.specs.Conditions.Condition.{noInceptions, noPresentHeads, rotationsInOrder, pairsInOrder, room}
 use Rattle.ledger_examples.specs.Pieces.{said, snTwo, credential, backedId, plain, backed, holding, inception, rotation, issue, revocation, issueByHead}
 
@@ -48,3 +48,25 @@ RotationsOrdered = Needed rotationsInOrder oneBacked firstRotation secondRotatio
 -- an iss and a rev of one pair: 5 before it
 abbrev pub PairsOrdered : Type 0
 PairsOrdered = Needed pairsInOrder onePlain issued revoked (0 ∷ 0 ∷ []) (5 ∷ 0 ∷ [])
+
+-- The conditions can be met: two vrts of one registry, an iss and a rev of a pair of another, a rev of a pair that is not held, and bytes
+-- that are no attempt, in two orders.
+abbrev pub plainAndBacked : Ledger
+plainAndBacked = holding (plain ∷ backed ∷ []) 0 []
+
+abbrev pub absent : Message
+absent = revocation (said 4) (said 11) (said 12)
+
+abbrev pub noBytes : List ℕ
+noBytes = []
+
+abbrev pub oneOrder : List (List ℕ)
+oneOrder =
+    attemptBytes firstRotation ∷ attemptBytes secondRotation ∷ attemptBytes issued ∷ attemptBytes revoked ∷ attemptBytes absent ∷ noBytes ∷ []
+
+abbrev pub otherOrder : List (List ℕ)
+otherOrder =
+    noBytes ∷ attemptBytes issued ∷ attemptBytes firstRotation ∷ attemptBytes absent ∷ attemptBytes revoked ∷ attemptBytes secondRotation ∷ []
+
+abbrev pub ConditionsMet : Type 0
+ConditionsMet = Met plainAndBacked oneOrder (0 ∷ 0 ∷ 0 ∷ 0 ∷ 5 ∷ 1 ∷ []) otherOrder (1 ∷ 0 ∷ 0 ∷ 5 ∷ 0 ∷ 0 ∷ [])
