@@ -14,11 +14,11 @@ use lib.Dec.{leb}
 use lib.ListN.{length, getElem?}
 use Rattle.registry_wire.specs.Attempts.{Message, attemptBytes, goodMessage}
 use Rattle.registry_laws.specs.Pairs.{Pair}
-use Rattle.ledger_step.specs.Ledgers.{Ledger, sound}
+use Rattle.ledger_step.specs.Ledgers.{Ledger}
 use Rattle.ledger_step.specs.Steps.{Request, eventRequest, requestOf}
 use Rattle.ledger_step.specs.Orders.{Each, Matched, KeepsOrder}
 use Rattle.ledger_step.specs.OrderFreedom.{Result, resultsOf, newPairBy, once, newPairs, SameRuns}
-use Rattle.ledger_examples.specs.Conditions.{Condition, isInception, byHead, rotates, names, Holds, numbersOf, bytesOf, Needed}
+use Rattle.ledger_examples.specs.Conditions.{Condition, isInception, byHead, rotates, names, Holds, numbersOf, bytesOf, Whole, Needed}
 use Rattle.ledger_examples.specs.Conditions.Condition.{noInceptions, noPresentHeads, rotationsInOrder, pairsInOrder, room}
 use Rattle.ledger_examples.proofs.Asked.{asks, numbersBy, numbers-by}
 use Rattle.ledger_examples.proofs.Exchanges.{exchanged, keeps, both}
@@ -79,11 +79,11 @@ module _ (a b : Message) (ga : goodMessage a ≡ true) (gb : goodMessage b ≡ t
     unfolding newPairs
     rows h = rw (asks a ga, asks b gb) (leb-true _ _ h)
 
--- what is computed of an example: its messages are within the limits, its ledger is sound, and the numbers of the two runs
+-- what is computed of an example: its messages are within the limits, its ledger is whole, and the numbers of the two runs
 pub record Computed (l : Ledger) (a b : Message) (ns ks : List ℕ) : Type 0 where
   pub good-first : goodMessage a ≡ true
   pub good-second : goodMessage b ≡ true
-  pub reads : sound l ≡ true
+  pub whole : Whole l
   pub first : numbersBy l (asked a ∷ asked b ∷ []) ≡ ns
   pub second : numbersBy l (asked b ∷ asked a ∷ []) ≡ ks
 
@@ -93,4 +93,4 @@ needed c l a b ns ks x others i n k h p q ne =
     let f = two-numbers a b (x .good-first) (x .good-second) l ∙ x .first in
     let g = two-numbers b a (x .good-second) (x .good-first) l ∙ x .second in
     record
-    { reads = x .reads; first = f; second = g; matched = matching a b; others = others; differ = runs-differ l (bytesOf a b) (bytesOf b a) (matching a b) ns ks f g i n k h p q ne }
+    { whole = x .whole; first = f; second = g; matched = matching a b; others = others; differ = runs-differ l (bytesOf a b) (bytesOf b a) (matching a b) ns ks f g i n k h p q ne }

@@ -1,15 +1,16 @@
 -- Each condition is needed (docs/RULES.md, "Two orders").
---     inceptions-out, present-heads-out, rotations-ordered, pairs-ordered    the examples of specs/Examples
-use mathlib.Core.Path.{refl}
+--     inceptions-out, present-heads-out, rotations-ordered, pairs-ordered, room-left    the examples of specs/Examples
+use mathlib.Core.Path.{refl, ap}
 use mathlib.Core.Logic.{_≢_}
 use native.Mathlib.Omega.{arith}
 use lib.Dec.{lit<}
 use Rattle.cesr.specs.Primitives.{eqMatter}
+use Rattle.registry_laws.specs.Pairs.{Pair}
 use Rattle.ledger_step.specs.Tables.{find, has}
 use Rattle.ledger_examples.specs.Conditions.{Condition, Holds}
 use Rattle.ledger_examples.specs.Conditions.Condition.{noInceptions, noPresentHeads, rotationsInOrder, pairsInOrder, room}
 use Rattle.ledger_examples.specs.Pieces.{inception}
-use Rattle.ledger_examples.specs.Examples.{empty, onePlain, oneBacked, issued, issuedByHead, revoked, firstRotation, secondRotation, InceptionsOut, PresentHeadsOut, RotationsOrdered, PairsOrdered}
+use Rattle.ledger_examples.specs.Examples.{empty, onePlain, oneBacked, issued, issuedByHead, revoked, firstRotation, secondRotation, InceptionsOut, PresentHeadsOut, RotationsOrdered, PairsOrdered, oneLeft, issuedToo, RoomLeft}
 use Rattle.ledger_examples.proofs.Cases.{matching, inceptions, heads, rotations, pairs, rows, needed}
 use Rattle.ledger_examples.proofs.Computed as X
 
@@ -55,3 +56,14 @@ but-pairs room h = rows issued revoked (X.pairs .good-first) (X.pairs .good-seco
 
 pub pairs-ordered : PairsOrdered
 pairs-ordered = needed pairsInOrder onePlain issued revoked _ _ X.pairs but-pairs 1 0 5 (lit< tt) refl refl (λ e. omega (arith, e))
+
+but-room : (d : Condition) → d ≢ room → Holds d oneLeft (matching issued issuedToo)
+but-room noInceptions h = inceptions issued issuedToo (X.rows .good-first) (X.rows .good-second) oneLeft refl refl
+but-room noPresentHeads h = heads issued issuedToo (X.rows .good-first) (X.rows .good-second) oneLeft refl refl
+but-room rotationsInOrder h = rotations issued issuedToo (X.rows .good-first) (X.rows .good-second) oneLeft tt
+but-room pairsInOrder h =
+    pairs issued issuedToo (X.rows .good-first) (X.rows .good-second) oneLeft (λ e. omega (arith, ap (λ (k : Pair). k .credential .0 .w0) e))
+but-room room h = absurd (h refl)
+
+pub room-left : RoomLeft
+room-left = needed room oneLeft issued issuedToo _ _ X.rows but-room 0 0 29 (lit< tt) refl refl (λ e. omega (arith, e))

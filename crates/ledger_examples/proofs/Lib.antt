@@ -3,5 +3,7 @@ pub mod Cases
 pub mod Computed
 pub mod Exchanged
 pub mod Exchanges
+pub mod FiveConditions
+pub mod HeldRows
 pub mod MetOrders
 pub mod Reordered

@@ -92,4 +92,4 @@ few = rw (a1, a2, a3, a4, a5, none-asks)
 -- The claim applies.
 pub conditions-met : ConditionsMet
 conditions-met = record
-    { reads = X.met-reads; first = one; second = other; different = different; matched = matched; admitted = admitted; ordered = keeps; rows = leb-true _ _ few; same = order-free plainAndBacked oneOrder otherOrder matched admitted keeps (leb-true _ _ few) }
+    { whole = X.met-whole; first = one; second = other; different = different; matched = matched; admitted = admitted; ordered = keeps; rows = leb-true _ _ few; same = order-free plainAndBacked oneOrder otherOrder matched admitted keeps (leb-true _ _ few) }

@@ -1,7 +1,7 @@
 -- The conditions of the claim about two orders, one by one, and what it is that one of them is needed (docs/RULES.md, "Two orders").
 use Prim.Native.Nat.{ℕ, _+_, _≤_}
 use mathlib.Core.Path.{_≡_}
-use mathlib.Core.Logic.{_≢_}
+use mathlib.Core.Logic.{_≢_, _↔_}
 use mathlib.Core.Bool.{Bool, true, false}
 use mathlib.Core.Option.{Option, none, some}
 use mathlib.Core.List.{List, [], _∷_, map}
@@ -60,9 +60,11 @@ Holds rotationsInOrder l m = KeepsOrder (λ s. rotates (requestOf s)) m
 Holds pairsInOrder l m = KeepsOrder (λ s. names (requestOf s)) m
 Holds room l {xs} m = l .rowCount + length (newPairs l xs) ≤ 256
 
--- The five together are what the claim asks: under them it gives the same runs.
-abbrev pub Suffice : Type 0
-Suffice = (l : Ledger) (xs ys : List (List ℕ)) (m : Matched xs ys) → ((c : Condition) → Holds c l m) → SameRuns l xs ys m
+-- The five together are the three that the claim asks.
+abbrev pub Together : Type 0
+Together =
+    (l : Ledger) (xs ys : List (List ℕ)) (m : Matched xs ys)
+    → ((c : Condition) → Holds c l m) ↔ (Each Admitted xs × KeepsOrder classOf m × (l .rowCount + length (newPairs l xs) ≤ 256))
 
 -- the numbers of a run's results
 abbrev pub numbersOf : Ledger → List (List ℕ) → List ℕ
@@ -71,10 +73,16 @@ numbersOf l xs = map (λ (r : Result). r .number) (resultsOf l xs)
 abbrev pub bytesOf : Message → Message → List (List ℕ)
 bytesOf a b = attemptBytes a ∷ attemptBytes b ∷ []
 
--- Two messages show that a condition is needed: from a ledger that keeps the reading rules they are answered by these numbers in the one
--- order and by those in the other; of the conditions every other one holds, and the runs differ.
-pub record Needed (c : Condition) (l : Ledger) (a b : Message) (numbers exchanged : List ℕ) : Type 0 where
+-- a ledger that keeps the reading rules, and holds as many states as it counts
+pub record Whole (l : Ledger) : Type 0 where
   pub reads : sound l ≡ true
+  pub registries : length (l .registries) ≡ l .registryCount
+  pub rows : length (l .rows) ≡ l .rowCount
+
+-- Two messages show that a condition is needed: from a whole ledger they are answered by these numbers in the one order and by those in
+-- the other; of the conditions every other one holds, and the runs differ.
+pub record Needed (c : Condition) (l : Ledger) (a b : Message) (numbers exchanged : List ℕ) : Type 0 where
+  pub whole : Whole l
   pub first : numbersOf l (bytesOf a b) ≡ numbers
   pub second : numbersOf l (bytesOf b a) ≡ exchanged
   pub matched : Matched (bytesOf a b) (bytesOf b a)
@@ -83,7 +91,7 @@ pub record Needed (c : Condition) (l : Ledger) (a b : Message) (numbers exchange
 
 -- The conditions can be met: two lists that differ are matched, all that the claim asks holds, and so does what it concludes.
 pub record Met (l : Ledger) (xs : List (List ℕ)) (numbers : List ℕ) (ys : List (List ℕ)) (others : List ℕ) : Type 0 where
-  pub reads : sound l ≡ true
+  pub whole : Whole l
   pub first : numbersOf l xs ≡ numbers
   pub second : numbersOf l ys ≡ others
   pub different : xs ≢ ys

@@ -1,13 +1,14 @@
 -- For each condition of the claim about two orders, two attempts that are answered in another way where they are exchanged, while every
 -- other condition holds (docs/RULES.md, "Two orders").
-use Prim.Native.Nat.{ℕ}
+use Prim.Native.Nat.{ℕ, zero, suc}
 use mathlib.Core.List.{List, [], _∷_}
-use Rattle.events_tel.specs.TelEvents.{snOne}
+use Rattle.events_tel.specs.TelEvents.{snZero, snOne}
+use Rattle.registry_state.specs.declared.state.CredentialState.{CredentialState}
 use Rattle.registry_wire.specs.Attempts.{Message, attemptBytes}
 use Rattle.ledger_step.specs.Ledgers.{Ledger}
 use Rattle.ledger_examples.specs.Conditions.{Needed, Met}
 use Rattle.ledger_examples.specs.Conditions.Condition.{noInceptions, noPresentHeads, rotationsInOrder, pairsInOrder, room}
-use Rattle.ledger_examples.specs.Pieces.{said, snTwo, credential, backedId, plain, backed, holding, inception, rotation, issue, revocation, issueByHead}
+use Rattle.ledger_examples.specs.Pieces.{primitive, said, snTwo, plainId, credential, backedId, plain, backed, holding, inception, rotation, issue, revocation, issueByHead}
 
 abbrev pub empty : Ledger
 empty = holding [] 0 []
@@ -48,6 +49,21 @@ RotationsOrdered = Needed rotationsInOrder oneBacked firstRotation secondRotatio
 -- an iss and a rev of one pair: 5 before it
 abbrev pub PairsOrdered : Type 0
 PairsOrdered = Needed pairsInOrder onePlain issued revoked (0 ∷ 0 ∷ []) (5 ∷ 0 ∷ [])
+
+-- A ledger that has one row left: rows of 255 credentials, whose saids have the letter F.
+unfoldable pub heldRows : ℕ → List CredentialState
+heldRows zero = []
+heldRows (suc n) = record { registry = plainId; credential = record { 0 = primitive 70 n }; sn = snZero; head = said 10 } ∷ heldRows n
+
+abbrev pub oneLeft : Ledger
+oneLeft = holding (plain ∷ []) 255 (heldRows 255)
+
+abbrev pub issuedToo : Message
+issuedToo = issue (said 4) (said 12)
+
+-- two iss of pairs that are not held: 29 for the second, whichever that is
+abbrev pub RoomLeft : Type 0
+RoomLeft = Needed room oneLeft issued issuedToo (0 ∷ 29 ∷ []) (0 ∷ 29 ∷ [])
 
 -- The conditions can be met: two vrts of one registry, an iss and a rev of a pair of another, a rev of a pair that is not held, and bytes
 -- that are no attempt, in two orders.
