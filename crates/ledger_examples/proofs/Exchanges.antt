@@ -3,11 +3,11 @@
 --     keeps         the order within classes is kept where the two are in no class together
 --     both          what holds of each
 use Prim.Native.Nat.{ℕ, zero, suc, _<_, _-_}
-use mathlib.Core.Path.{_≡_, refl, sym, ap, _∙_, subst}
-use mathlib.Core.Option.{Option, none, some, Option·none-ne-some, Option·some-injective}
-use mathlib.Core.List.{List, [], _∷_}
+use mathlib.Core.Path.{_≡_, refl, ap, _∙_, subst}
+use mathlib.Core.Option.{Option, some, Option·none-ne-some, Option·some-injective}
+use mathlib.Core.List.{[], _∷_}
 use native.Mathlib.Omega.{arith}
-use lib.ListN.{length, getElem?}
+use lib.ListN.{getElem?}
 use Rattle.ledger_step.specs.Orders.{Each, Matched, KeepsOrder}
 
 module _ {A : Type 0} (s t : A) where

@@ -1,20 +1,20 @@
 -- The five conditions together are those of the claim about two orders (docs/RULES.md, "Two orders").
 --     together   the sentence of specs/Conditions
-use Prim.Native.Nat.{ℕ, _+_, _≤_, _<_}
+use Prim.Native.Nat.{ℕ, _+_, _≤_}
 use mathlib.Core.Path.{_≡_, refl, ap}
 use mathlib.Core.Bool.{true, false, not, true≢false, false≢true}
-use mathlib.Core.Option.{Option, none, some, Option·none-ne-some}
+use mathlib.Core.Option.{some, Option·none-ne-some}
 use mathlib.Core.List.{List}
 use native.Mathlib.Omega.{arith}
 use borrow.Author.Tests.{not-true}
-use lib.ListN.{length, getElem?}
+use lib.ListN.{length}
 use Rattle.cesr.specs.declared.primitive.Said.{Said}
 use Rattle.registry_laws.specs.Pairs.{Pair}
 use Rattle.ledger_step.specs.Ledgers.{Ledger}
 use Rattle.ledger_step.specs.Steps.{Request, requestOf}
 use Rattle.ledger_step.specs.Steps.Request.{nothing, inception, rotation, issue, revocation}
 use Rattle.ledger_step.specs.Orders.{Each, Matched, KeepsOrder}
-use Rattle.ledger_step.specs.OrderFreedom.{Class, classBy, classOf, takesHead, admittedBy, Admitted, newPairs}
+use Rattle.ledger_step.specs.OrderFreedom.{classBy, classOf, takesHead, admittedBy, Admitted, newPairs}
 use Rattle.ledger_step.specs.OrderFreedom.Class.{rotationsOf, attemptsOn}
 use Rattle.ledger_examples.specs.Conditions.{Condition, isInception, byHead, rotates, names, Holds, Together}
 use Rattle.ledger_examples.specs.Conditions.Condition.{noInceptions, noPresentHeads, rotationsInOrder, pairsInOrder, room}

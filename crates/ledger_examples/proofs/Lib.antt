@@ -1,7 +1,7 @@
 pub mod Asked
 pub mod Cases
-pub mod Computed
-pub mod Exchanged
+pub mod Computations
+pub mod EachNeeded
 pub mod Exchanges
 pub mod FiveConditions
 pub mod HeldRows

@@ -1,6 +1,6 @@
 -- The conditions of the claim about two orders can be met (docs/RULES.md, "Two orders").
 --     conditions-met   the example of specs/Examples
-use Prim.Native.Nat.{ℕ, _+_, _≤_, _<_}
+use Prim.Native.Nat.{ℕ, _+_, _<_}
 use Rattle.cesr.specs.Primitives.{eqMatter}
 use mathlib.Core.Path.{_≡_, refl, sym, ap, _∙_}
 use mathlib.Core.Logic.{_≢_}
@@ -15,15 +15,15 @@ use Rattle.registry_wire.specs.Attempts.{Decoded, attemptBytes, decodeOf}
 use Rattle.registry_wire.specs.Attempts.Decoded.{malformed, decoded}
 use Rattle.registry_wire.proofs.CodesAttempt.{decodes}
 use Rattle.registry_error.specs.declared.error.RegistryRejection.the-variants.{Malformed}
-use Rattle.ledger_step.specs.Steps.{Request, decodedRequest, requestOf}
+use Rattle.ledger_step.specs.Steps.{decodedRequest, requestOf}
 use Rattle.ledger_step.specs.Steps.Request.{nothing}
 use Rattle.ledger_step.specs.Orders.{Each, Matched, KeepsOrder}
-use Rattle.ledger_step.specs.OrderFreedom.{classBy, classOf, admittedBy, Admitted, newPairBy, once, newPairs}
+use Rattle.ledger_step.specs.OrderFreedom.{classOf, admittedBy, Admitted, newPairs}
 use Rattle.ledger_step.proofs.TwoOrders.{order-free}
 use Rattle.ledger_step.specs.Tables.{has, find}
-use Rattle.ledger_examples.specs.Conditions.{numbersOf, Met}
+use Rattle.ledger_examples.specs.Conditions.{numbersOf}
 use Rattle.ledger_examples.specs.Examples.{issued, revoked, absent, noBytes, firstRotation, secondRotation, plainAndBacked, oneOrder, otherOrder, ConditionsMet}
-use Rattle.ledger_examples.proofs.Computed as X
+use Rattle.ledger_examples.proofs.Computations as X
 use Rattle.ledger_examples.proofs.Asked.{asks, numbers-by}
 use Rattle.ledger_examples.proofs.Cases.{asked}
 use Rattle.ledger_examples.proofs.Reordered.{upto-at, all-each, before, ordered, ordered-at}

@@ -4,7 +4,7 @@
 --     ordered, ordered-keeps the order within classes, as a test of the places that the elements get
 use Prim.Native.Nat.{ℕ, zero, suc, _<_}
 use mathlib.Core.Path.{_≡_, refl, sym, ap, _∙_, subst}
-use mathlib.Core.Bool.{Bool, true, false, not, _&&_, _||_, true≢false, false≢true}
+use mathlib.Core.Bool.{Bool, true, false, not, _&&_, _||_, false≢true}
 use mathlib.Core.Option.{Option, none, some, Option·none-ne-some, Option·some-injective}
 use mathlib.Core.List.{List, [], _∷_, map}
 use native.Mathlib.Nat.{not-suc-le-zero, le-of-suc-le-suc}
@@ -16,7 +16,7 @@ use Rattle.cesr.specs.Primitives.{eqSaid}
 use Rattle.cesr.proofs.Matters.{eq-said}
 use Rattle.registry_verification.specs.Starred.{All}
 use Rattle.ledger_step.specs.Ledgers.{eqPair}
-use Rattle.ledger_step.specs.Orders.{Each, Matched, KeepsOrder}
+use Rattle.ledger_step.specs.Orders.{Each}
 use Rattle.ledger_step.specs.OrderFreedom.{Class}
 use Rattle.ledger_step.specs.OrderFreedom.Class.{rotationsOf, attemptsOn}
 use Rattle.ledger_step.proofs.Rules.{pair-test}

@@ -13,10 +13,9 @@ use Rattle.events.specs.declared.identifier.Identifier.the-variants.{SelfAddres
 use Rattle.events.specs.declared.seal.Seal.the-variants.{Event as EventSeal}
 use Rattle.registry_state.specs.States.{Registry}
 use Rattle.registry_state.specs.declared.state.CredentialState.{CredentialState}
-use Rattle.registry_seals.specs.SignatureSections.{Signature}
 use Rattle.registry_wire.specs.Attempts.{Evidence, Message}
 use Rattle.registry_wire.specs.Attempts.Evidence.{issuer, backer}
-use Rattle.ledger_step.specs.Ledgers.{Held, Ledger}
+use Rattle.ledger_step.specs.Ledgers.{Ledger}
 
 -- primitives that differ in their first word: E for saids, B for backers
 abbrev pub primitive : ℕ → ℕ → Matter
