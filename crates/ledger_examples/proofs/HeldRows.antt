@@ -81,7 +81,7 @@ counted (suc n) = ap suc (counted n)
 keeps : Keeps oneLeft
 unfolding all distinct has soundRegistry checkMembers check first exactOk noBackers hasCode
 keeps = record
-    { registry-slots = refl; few-registries = leb-true 1 16 refl; row-slots = refl; few-rows = leb-true 255 256 refl; layouts = refl; row-layouts = wells 255; ids = refl; keys = keys 255; homes = homes 255; low = lows 255; ruled = refl }
+    { registry-slots = refl; few-registries = leb-true _ 16 refl; row-slots = refl; few-rows = leb-true _ 256 refl; layouts = refl; row-layouts = wells 255; ids = refl; keys = keys 255; homes = homes 255; low = lows 255; ruled = refl }
 
 pub reads : sound oneLeft ≡ true
 reads = whole oneLeft keeps

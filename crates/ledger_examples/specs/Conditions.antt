@@ -80,7 +80,8 @@ pub record Whole (l : Ledger) : Type 0 where
   pub rows : length (l .rows) ≡ l .rowCount
 
 -- Two messages show that a condition is needed: from a whole ledger they are answered by these numbers in the one order and by those in
--- the other; of the conditions every other one holds, and the runs differ.
+-- the other; of the conditions every other one holds, and the runs differ. (So the condition itself does not hold there: with it the claim
+-- would make them the same.)
 pub record Needed (c : Condition) (l : Ledger) (a b : Message) (numbers exchanged : List ℕ) : Type 0 where
   pub whole : Whole l
   pub first : numbersOf l (bytesOf a b) ≡ numbers

@@ -1,5 +1,5 @@
 -- For each condition of the claim about two orders, two attempts that are answered in another way where they are exchanged, while every
--- other condition holds (docs/RULES.md, "Two orders").
+-- other condition holds; and two orders in which all of them hold (docs/RULES.md, "Two orders").
 use Prim.Native.Nat.{ℕ, zero, suc}
 use mathlib.Core.List.{List, [], _∷_}
 use Rattle.events_tel.specs.TelEvents.{snZero, snOne}
@@ -61,12 +61,12 @@ oneLeft = holding (plain ∷ []) 255 (heldRows 255)
 abbrev pub issuedToo : Message
 issuedToo = issue (said 4) (said 12)
 
--- two iss of pairs that are not held: 29 for the second, whichever that is
+-- two iss of pairs that are not held, with one row too few: 29 for the second, whichever that is
 abbrev pub RoomLeft : Type 0
 RoomLeft = Needed room oneLeft issued issuedToo (0 ∷ 29 ∷ []) (0 ∷ 29 ∷ [])
 
--- The conditions can be met: two vrts of one registry, an iss and a rev of a pair of another, a rev of a pair that is not held, and bytes
--- that are no attempt, in two orders.
+-- Two vrts of one registry, an iss and a rev of a pair under another, a rev of a pair that is not held, and bytes that are no attempt: in two
+-- orders, each of them the other's but for what its classes keep.
 abbrev pub plainAndBacked : Ledger
 plainAndBacked = holding (plain ∷ backed ∷ []) 0 []
 

@@ -1,4 +1,4 @@
--- Registries, messages and ledgers of which examples are made.
+-- Registries, messages and ledgers of which the examples are made (docs/RULES.md, "Bytes", "Event kinds").
 use Prim.Native.Nat.{ℕ}
 use mathlib.Core.Bool.{true}
 use mathlib.Core.List.{List, [], _∷_, map}
@@ -50,7 +50,7 @@ plain = record { id = plainId; issuer = controller; sn = snZero; latest = plainI
 abbrev pub backed : Registry
 backed = record { id = backedId; issuer = controller; sn = snZero; latest = backedId; toad = 1; configs = []; backers = prefix 1 ∷ [] }
 
--- a ledger of 16 and 256 slots that holds these
+-- a ledger of 16 and 256 slots that holds these registries, and n rows
 abbrev pub holding : List Registry → ℕ → List CredentialState → Ledger
 holding gs n ws =
     record { registrySlots = 16; registryCount = length gs; registries = map (λ (g : Registry). record { well = true; state = g }) gs; rowSlots = 256; rowCount = n; rows = ws }
@@ -64,7 +64,8 @@ sealed id sn d evidence event =
 abbrev pub byController : Evidence
 byController = issuer controller []
 
--- the six kinds, but for brv; the last said of each is the event's own
+-- a message of a kind: the vcp of the registry without backers, a vrt of the one with a backer, an iss and a rev under the first; the last
+-- said of each is the event's own
 abbrev pub inception : Message
 inception = sealed plainId snZero plainId byController (vcp plainId controller 0 (3 ∷ []) [])
 
@@ -77,6 +78,6 @@ issue c d = sealed c snZero d byController (iss d c plainId)
 abbrev pub revocation : Said → Said → Said → Message
 revocation c prior d = sealed c snOne d byController (rev d c plainId prior)
 
--- by the head that its own seal names: the inception
+-- a bis under the registry with a backer, whose authority is the head that its own seal names: the inception
 abbrev pub issueByHead : Said → Said → Message
 issueByHead c d = sealed c snZero d backer (bis d c backedId (EventSeal (SelfAddressing backedId) snZero backedId))
