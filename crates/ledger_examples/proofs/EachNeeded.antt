@@ -1,5 +1,6 @@
 -- Each condition is needed (docs/RULES.md, "Two orders").
 --     inceptions-out, present-heads-out, rotations-ordered, pairs-ordered, room-left    the examples of specs/Examples
+--     each-needed    one for every condition
 use mathlib.Core.Path.{refl, ap}
 use mathlib.Core.Logic.{_≢_}
 use native.Mathlib.Omega.{arith}
@@ -9,7 +10,7 @@ use Rattle.ledger_step.specs.Tables.{find, has}
 use Rattle.ledger_examples.specs.Conditions.{Condition, Holds}
 use Rattle.ledger_examples.specs.Conditions.Condition.{noInceptions, noPresentHeads, rotationsInOrder, pairsInOrder, room}
 use Rattle.ledger_examples.specs.Pieces.{inception}
-use Rattle.ledger_examples.specs.Examples.{empty, onePlain, oneBacked, issued, issuedByHead, revoked, firstRotation, secondRotation, InceptionsOut, PresentHeadsOut, RotationsOrdered, PairsOrdered, oneLeft, issuedToo, RoomLeft}
+use Rattle.ledger_examples.specs.Examples.{empty, onePlain, oneBacked, issued, issuedByHead, revoked, firstRotation, secondRotation, InceptionsOut, PresentHeadsOut, RotationsOrdered, PairsOrdered, oneLeft, issuedToo, RoomLeft, EachNeeded}
 use Rattle.ledger_examples.proofs.Cases.{matching, inceptions, heads, rotations, pairs, rows, needed}
 use Rattle.ledger_examples.proofs.Computations as X
 
@@ -66,3 +67,10 @@ but-room room h = absurd (h refl)
 
 pub room-left : RoomLeft
 room-left = needed X.rows room but-room 0 0 29 (lit< tt) refl refl (λ e. omega (arith, e))
+
+pub each-needed : EachNeeded
+each-needed noInceptions = (empty, inception, issued, _, _, inceptions-out)
+each-needed noPresentHeads = (oneBacked, issuedByHead, firstRotation, _, _, present-heads-out)
+each-needed rotationsInOrder = (oneBacked, firstRotation, secondRotation, _, _, rotations-ordered)
+each-needed pairsInOrder = (onePlain, issued, revoked, _, _, pairs-ordered)
+each-needed room = (oneLeft, issued, issuedToo, _, _, room-left)

@@ -6,7 +6,7 @@ use Rattle.events_tel.specs.TelEvents.{snZero, snOne}
 use Rattle.registry_state.specs.declared.state.CredentialState.{CredentialState}
 use Rattle.registry_wire.specs.Attempts.{Message, attemptBytes}
 use Rattle.ledger_step.specs.Ledgers.{Ledger}
-use Rattle.ledger_examples.specs.Conditions.{Needed, Met}
+use Rattle.ledger_examples.specs.Conditions.{Condition, Needed, Met}
 use Rattle.ledger_examples.specs.Conditions.Condition.{noInceptions, noPresentHeads, rotationsInOrder, pairsInOrder, room}
 use Rattle.ledger_examples.specs.Pieces.{primitive, said, snTwo, plainId, credential, backedId, plain, backed, holding, inception, rotation, issue, revocation, issueByHead}
 
@@ -65,8 +65,13 @@ issuedToo = issue (said 4) (said 12)
 abbrev pub RoomLeft : Type 0
 RoomLeft = Needed room oneLeft issued issuedToo (0 ∷ 29 ∷ []) (0 ∷ 29 ∷ [])
 
--- Two vrts of one registry, an iss and a rev of a pair under another, a rev of a pair that is not held, and bytes that are no attempt: in two
--- orders, each of them the other's but for what its classes keep.
+-- So every condition is needed.
+abbrev pub EachNeeded : Type 0
+EachNeeded =
+    (c : Condition) → (l : Ledger) × (a : Message) × (b : Message) × (numbers : List ℕ) × (exchanged : List ℕ) × Needed c l a b numbers exchanged
+
+-- All of them hold: two vrts of one registry, an iss and a rev of a pair under another, a rev of a pair that is not held, and bytes that are
+-- no attempt, in two orders.
 abbrev pub plainAndBacked : Ledger
 plainAndBacked = holding (plain ∷ backed ∷ []) 0 []
 

@@ -1,1 +1,2 @@
-// The conditions of the claim about two orders, each by itself: specs/ has ledgers and attempts that meet them all, or all but one, proofs/ what their runs come to. There is no code here.
+// Examples for the claim about two orders: its conditions can be met, and each of them is needed. specs/ has the ledgers, the attempts and
+// the sentences, proofs/ their proofs. There is no code here.
