@@ -4,12 +4,16 @@ pub mod Lacking
 pub mod Locality
 pub mod NewStates
 pub mod PlaceLaws
+pub mod PlaceSteps
 pub mod Places
 pub mod ReadLetters
 pub mod ReadsFixed
+pub mod Relend
 pub mod Rules
 pub mod Runs
 pub mod SoundParts
 pub mod StepSound
+pub mod TableChecks
 pub mod TableLaws
+pub mod Turns
 pub mod TwoOrders

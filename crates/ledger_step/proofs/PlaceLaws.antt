@@ -1,6 +1,7 @@
 -- Laws of places: what `find`, `put` and `distinct` of tables say of the place at which a key is first found.
 --     place-cons                  the place, from the head of the list
 --     find-place, put-place       finding and replacing, by place
+--     has-place                   whether a key is there, by place
 --     places-apart, not-apart     keys are distinct where each element stands at the place of its key, and there alone
 --     getD-any, set-past          a place within a list, and one past its end
 use Prim.Native.Nat.{ℕ, zero, suc, _<_, _≤_}
@@ -84,7 +85,8 @@ module _ {X K : Type 0} (key : X → K) (eq : K → K → Bool) (blank : X) wher
       go true p ih = refl
       go false p ih = ap (λ (r : List X). y ∷ r) ih
 
-  has-place : (k : K) (l : List X) → has eq k (map key l) ≡ ltb (place key eq blank k l) (length l)
+  -- a key is in the table exactly where its place is within it
+  pub has-place : (k : K) (l : List X) → has eq k (map key l) ≡ ltb (place key eq blank k l) (length l)
   has-place k l =
       has-find key eq k l ∙ rw (find-place k l) (found-cond (ltb (place key eq blank k l) (length l)) (getD l (place key eq blank k l) blank))
 
