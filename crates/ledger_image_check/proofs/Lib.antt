@@ -1,0 +1,4 @@
+pub mod OneMore
+pub mod IdViews
+pub mod RegistryChecks
+pub mod RowChecks
