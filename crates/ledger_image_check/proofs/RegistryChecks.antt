@@ -2,22 +2,24 @@
 --     pass-registries     each passes exactly where all keep the rules of one registry and no two have one id
 --     rules-registries    so they keep the reading rules that speak of registries alone
 --     registry-read       a registry that was read keeps to its layout, with lists whose counts are within the limits
-use Prim.Native.Nat.{ℕ, zero, suc, _≤_}
+use Prim.Native.Nat.{ℕ, zero, suc, _+_, _≤_}
 use mathlib.Core.Path.{_≡_, refl, sym, ap, _∙_}
 use mathlib.Core.Bool.{Bool, true, false, not, _&&_, and-false}
 use mathlib.Core.List.{List, [], _∷_, _++_, map, map-append}
+use native.Mathlib.Numerals.{add-one}
 use borrow.Author.Tests.{le-leb}
 use lib.Dec.{leb}
-use lib.ListN.{length}
+use lib.ListN.{length, length-append}
 use Rattle.laws.specs.Number.{Bytes}
 use Rattle.laws.proofs.Tests.{and-left, and-right}
 use Rattle.cesr.specs.Primitives.{eqSaid, isBasic, isSaid}
+use Rattle.cesr.specs.declared.primitive.Said.{Said}
 use Rattle.events.specs.Members.{view}
 use Rattle.events.specs.declared.member_set.Members.{Members}
 use Rattle.events_tel.specs.Configs.{viewConfigs}
 use Rattle.events_tel.specs.declared.config.Configs.{Configs}
 use Rattle.codec_cursor.specs.declared.cursor.Cursor.{Cursor}
-use Rattle.codec_cursor.specs.Readers.{Read, isIdentifier, times}
+use Rattle.codec_cursor.specs.Readers.{Read, starting, isIdentifier, times}
 use Rattle.codec.specs.Layout.{all, isMatter, goodSaid, goodIdentifier, goodSn, goodToad, goodConfigs, goodPrefix, goodPrefixes}
 use Rattle.codec.proofs.Codes.{and-true as and-both}
 use Rattle.codec.proofs.CodesList.{all-snoc}
@@ -30,7 +32,8 @@ use Rattle.ledger_step.specs.Ledgers.{holds, idOf, keepsLayout, keepsRules, reg
 use Rattle.ledger_step.specs.Steps.{heldNow}
 use Rattle.ledger_step.proofs.Rules.{said-test}
 use Rattle.ledger_step.proofs.TableLaws.{all-weaker}
-use Rattle.ledger_image_check.specs.Checks.{idIn, registriesPass}
+use Rattle.ledger_image.specs.Images.{wideCount, wideSection, readRegistries}
+use Rattle.ledger_image_check.specs.Checks.{idIn, registriesPass, sectionPasses}
 use Rattle.ledger_image_check.proofs.OneMore.{distinct-snoc}
 
 -- the rules that registries keep, together
@@ -55,6 +58,46 @@ pass-registries s b c (suc n) h =
     let g = readRegistry s (r .next) in
     let before = pass-registries s b c n (codes-registry .sound s (r .next) b h .ok) in
     rw (before, h) (sym (one-more (r .value) (g .value)))
+
+-- where the loop over the registries stands: behind i of them, with their ids, and whether each passed
+pub record Turned (s : List ℕ) (c : Cursor) (i : ℕ) (d : Cursor) (l : List Said) (ok : Bool) : Type 0 where
+  pub at : d ≡ times i readRegistry s c .next
+  pub ids : l ≡ map idIn (times i readRegistry s c .value)
+  pub size : length l ≡ i
+  pub pass : ok ≡ registriesPass s c i
+
+-- a registry that is there keeps to its layout, so only its own rules are left to test
+left-to-test : (o well rules fresh : Bool) → (o ≡ true → well ≡ true) → (o && ((well && rules) && fresh)) ≡ (o && (rules && fresh))
+left-to-test false well rules fresh h = refl
+left-to-test true well rules fresh h = rw (h refl)
+
+times-more : (s : List ℕ) (c : Cursor) (i : ℕ) (g : Registry) (e : Cursor) → record { value = g; next = e } ≡ readRegistry s (times i readRegistry s c .next) → times (i + 1) readRegistry s c ≡ record { value = times i readRegistry s c .value ++ (g ∷ []); next = e }
+unfolding times
+times-more s c i g e h = rw (add-one, ← h)
+
+pass-more : (s : List ℕ) (c : Cursor) (i : ℕ) (g : Registry) (e : Cursor) → record { value = g; next = e } ≡ readRegistry s (times i readRegistry s c .next) → registriesPass s c (i + 1) ≡ (registriesPass s c i && (e .ok && (soundRegistry g && not (has eqSaid (g .id) (map idIn (times i readRegistry s c .value))))))
+unfolding registriesPass
+pass-more s c i g e h = rw (add-one, ← h)
+
+pub turn : (s : List ℕ) (c : Cursor) (i : ℕ) (d : Cursor) (l : List Said) (ok : Bool) → Turned s c i d l ok
+    → (g : RegistryState) (e : Cursor) → record { value = viewRegistry g; next = e } ≡ readRegistry s d → (e .ok ≡ true → wellRegistry g ≡ true)
+    → (known sound : Bool) → known ≡ has eqSaid (g .id) l → sound ≡ (wellRegistry g && soundRegistry (viewRegistry g))
+    → (m : List Said) → m ≡ l ++ (g .id ∷ []) → Turned s c (i + 1) e m (ok && (e .ok && (sound && not known)))
+turn s c i d l ok t g e q w known sound k v m p =
+    let r = times i readRegistry s c in
+    let here : record { value = viewRegistry g; next = e } ≡ readRegistry s (r .next) = q ∙ ap (readRegistry s) (t .at) in
+    let more : times (i + 1) readRegistry s c ≡ record { value = r .value ++ (viewRegistry g ∷ []); next = e } = times-more s c i (viewRegistry g) e here in
+    record {
+      at = ap (λ (x : Read (List Registry)). x .next) (sym more);
+      ids = p ∙ rw (t .ids, more, map-append idIn (r .value) (viewRegistry g ∷ []));
+      size = rw (p, length-append, t .size);
+      pass = rw (pass-more s c i (viewRegistry g) e here, t .pass, ← t .ids, ← k, v, left-to-test (e .ok) (wellRegistry g) (soundRegistry (viewRegistry g)) (not known) w);
+    }
+
+-- and behind the last
+pub section-end : (s : List ℕ) (n : Read ℕ) → n ≡ wideCount 16 s starting → (i : ℕ) → i ≡ n .value → (d : Cursor) (l : List Said) (ok : Bool) → Turned s (n .next) i d l ok → (ok ≡ sectionPasses s) × ((l ≡ map idIn (readRegistries s starting .value)) × (d ≡ readRegistries s starting .next))
+unfolding sectionPasses readRegistries wideSection
+section-end s n q i e d l ok t = (rw (← q, ← e) (t .pass), (rw (← q, ← e) (t .ids), rw (← q, ← e) (t .at)))
 
 held-layouts : (gs : List Registry) → all keepsLayout (map heldNow gs) ≡ true
 unfolding all

@@ -1,68 +1,76 @@
+use Prim.Native.Nat.{_<_, _≤_, _-_}
+use mathlib.Core.Path.{_≡_, refl, ap, _∙_}
+use native.Mathlib.Omega.{arith}
+use borrow.Author.Needs.{needs}
+use lib.ListN.{length}
+use Rattle.codec_cursor.specs.Readers.{times}
+use Rattle.codec.specs.Events.{viewCountRead}
+use Rattle.ledger_image.specs.Images.{wideCount}
+use Rattle.ledger_image_check.specs.Checks.{viewIds, registriesPass}
+use Rattle.ledger_image_check.proofs.Counts.{count-within}
+use Rattle.ledger_image_check.proofs.RegistryChecks.{Turned, turn, section-end}
 use Rattle.ledger_image_check.proofs.registries.check_registries.Statement.{statement}
 use Rattle.ledger_image_check.proofs.registries.check_registries.Tie as tie
-use Rattle.ledger_image_check.proofs.registries.check_registries.Reads as reads
-use Rattle.ledger_image_check.proofs.registries.check_registries.Lts as lts
-use Rattle.codec_cursor.proofs.cursor.Cursor.start.Reads as start-reads
-use Rattle.ledger_image.proofs.image.read_count.Reads as read-count-reads
-use Rattle.ledger_image_check.proofs.ids.Ids.contains.Reads as contains-reads
-use Rattle.ledger_image_check.proofs.ids.Ids.empty.Reads as empty-reads
-use Rattle.ledger_image_check.proofs.ids.Ids.push.Reads as push-reads
-use Rattle.ledger_image_check.proofs.registries.read_registry.Reads as read-registry-reads
-use Rattle.ledger_registries.proofs.registries.registry_sound.Reads as registry-sound-reads
 
 abbrev Inv-loop : tie.InvT-loop
-Inv-loop s count next₀ ok₀ ids₀ i₀ next ok ids i = ?
+Inv-loop s count next₀ ok₀ ids₀ i₀ next ok ids i = (i ≤ count) × Turned s next₀ i next (viewIds ids) ok
 
 abbrev μ-loop : tie.MeasureT-loop
-μ-loop s count next₀ ok₀ ids₀ i₀ next ok ids i = ?
+μ-loop s count next₀ ok₀ ids₀ i₀ next ok ids i = count - i
 
--- src/registries.rt:56:30
 start-requires : tie.Need-start-requires Inv-loop μ-loop
-start-requires c κs = ?
+start-requires c κs = search needs
 
--- src/registries.rt:56:9
 read-count-requires : tie.Need-read-count-requires Inv-loop μ-loop
-read-count-requires c κs = ?
+read-count-requires c κs = search needs
 
--- src/registries.rt:60:9
 empty-requires : tie.Need-empty-requires Inv-loop μ-loop
-empty-requires c κs = ?
+empty-requires c κs = search needs
 
--- src/registries.rt:62:5
 loop-holds : tie.Need-loop-holds Inv-loop μ-loop
-loop-holds c = ?
+unfolding times registriesPass
+loop-holds c =
+    (search needs, record { at = refl; ids = c .empty .ensures; size = ap length (c .empty .ensures); pass = refl })
 
--- src/registries.rt:63:13
 read-registry-requires : tie.Need-read-registry-requires Inv-loop μ-loop
-read-registry-requires c κs = ?
+read-registry-requires c κs = search needs
 
--- src/registries.rt:64:13
 contains-requires : tie.Need-contains-requires Inv-loop μ-loop
-contains-requires c κs = ?
+contains-requires c κs = search needs
 
--- src/registries.rt:65:33
 registry-sound-requires : tie.Need-registry-sound-requires Inv-loop μ-loop
-registry-sound-requires c κs = ?
+registry-sound-requires c κs = search needs
 
--- src/registries.rt:66:9
+-- fewer than 16 stand before a place within the count
+few : (c : tie.In-loop Inv-loop μ-loop) → c .before .loop .i < 16
+few c = omega (arith, c .loop-test .taken, count-within 16 _ _ _ (c .before .before .before .before .read-count .ensures))
+
 push-requires : tie.Need-push-requires Inv-loop μ-loop
-push-requires c κs = ?
+push-requires c κs = let b4 = c .before .before .before .before in omega (arith, few b4, b4 .before .loop .inv .1 .size)
 
--- src/registries.rt:68:9
 add-i : tie.Need-add-i Inv-loop μ-loop
-add-i c = ?
+add-i c = let b6 = c .before .before .before .before .before .before in omega (arith, few b6)
 
--- src/registries.rt:62:5
 loop-less : tie.Need-loop-less Inv-loop μ-loop
-loop-less c = ?
+loop-less c = search needs
 
--- src/registries.rt:62:5
 loop-again : tie.Need-loop-again Inv-loop μ-loop
-loop-again c = ?
+loop-again c =
+    let b1 = c .before in
+    let b3 = b1 .before .before in
+    let b4 = b3 .before in
+    let b5 = b4 .before in
+    let b6 = b5 .before in
+    let g = b5 .read-registry in (
+      omega (arith, b6 .loop-test .taken),
+      turn _ _ _ _ _ _ (b6 .before .loop .inv .1) (g .result .value) (g .result .next) (g .ensures .0) (g .ensures .1) _ _ (b4 .contains .ensures) (b3 .registry-sound .ensures) _ (b1 .push .ensures),
+    )
 
--- src/registries.rt:51:1
 returns : tie.Need-returns Inv-loop μ-loop
-returns c = ?
+returns c =
+    let b1 = c .before in
+    let b4 = b1 .before .before .before in
+    section-end _ (viewCountRead (b4 .read-count .result)) (b4 .read-count .ensures ∙ ap (wideCount 16 _) (b4 .before .start .ensures)) _ (omega arith) _ _ _ (b1 .loop .inv .1)
 
 pub check-registries-spec : {M : Type 1} → statement M
 check-registries-spec =

@@ -1,38 +1,41 @@
+use Prim.Native.Nat.{_≤_, _-_}
+use mathlib.Core.Path.{_≡_, refl, _∙_}
+use native.Mathlib.Numerals.{add-one}
+use native.Mathlib.Omega.{arith}
+use borrow.Author.Needs.{needs}
+use Rattle.ledger_image_check.specs.Checks.{viewIds, rowsPass}
 use Rattle.ledger_image_check.proofs.rows.check_rows.Statement.{statement}
 use Rattle.ledger_image_check.proofs.rows.check_rows.Tie as tie
-use Rattle.ledger_image_check.proofs.rows.check_rows.Reads as reads
-use Rattle.ledger_image_check.proofs.rows.check_rows.Lts as lts
-use Rattle.ledger_image_check.proofs.rows.row_passes.Reads as row-passes-reads
 
 abbrev Inv-loop : tie.InvT-loop
-Inv-loop s at n ids ok₀ i₀ ok i = ?
+Inv-loop s at n ids ok₀ i₀ ok i = (i ≤ n) × (ok ≡ rowsPass s at (viewIds ids) i)
 
 abbrev μ-loop : tie.MeasureT-loop
-μ-loop s at n ids ok₀ i₀ ok i = ?
+μ-loop s at n ids ok₀ i₀ ok i = n - i
 
--- src/rows.rt:64:5
 loop-holds : tie.Need-loop-holds Inv-loop μ-loop
-loop-holds c = ?
+unfolding rowsPass
+loop-holds c = (search needs, refl)
 
--- src/rows.rt:65:19
 row-passes-requires : tie.Need-row-passes-requires Inv-loop μ-loop
-row-passes-requires c κs = ?
+row-passes-requires c κs = search needs
 
--- src/rows.rt:66:9
 add-i : tie.Need-add-i Inv-loop μ-loop
-add-i c = ?
+add-i c = search needs
 
--- src/rows.rt:64:5
 loop-less : tie.Need-loop-less Inv-loop μ-loop
-loop-less c = ?
+loop-less c = search needs
 
--- src/rows.rt:64:5
 loop-again : tie.Need-loop-again Inv-loop μ-loop
-loop-again c = ?
+unfolding rowsPass
+loop-again c = (search needs, rw (add-one, c .row-passes .ensures, c .before .before .loop .inv .1))
 
--- src/rows.rt:58:1
 returns : tie.Need-returns Inv-loop μ-loop
-returns c = ?
+returns c =
+    let l = c .before .loop in
+    let a = c .before .before .before .args in
+    let e : l .i ≡ a .n = omega arith in
+    l .inv .1 ∙ rw e
 
 pub check-rows-spec : {M : Type 1} → statement M
 check-rows-spec =
