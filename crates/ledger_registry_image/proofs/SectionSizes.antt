@@ -3,7 +3,7 @@
 --     sized                the bytes of the first i registries, behind the two of the count
 --     sized-none, sized-more, sized-all   none, one more, and all of them
 --     Facts, at-start, at-turn            what holds where t registries are left of n
-use Prim.Native.Nat.{ℕ, zero, suc, _+_, _-_, _*_, _^_, _<_, _≤_, min}
+use Prim.Native.Nat.{ℕ, suc, _+_, _-_, _*_, _^_, _<_, _≤_, min}
 use mathlib.Core.Path.{_≡_, refl, ap, sym, _∙_}
 use mathlib.Core.List.{List, [], _∷_, _++_, map}
 use native.Mathlib.Omega.{arith}
@@ -12,13 +12,11 @@ use lib.Seq.{take-suc}
 use Rattle.laws.specs.Number.{digits}
 use Rattle.laws.proofs.Number.{length-digits}
 use Rattle.laws.proofs.Views.{take-counted}
-use Rattle.events.specs.Members.{view}
 use Rattle.events.proofs.Members.{view-size as backers-size}
-use Rattle.events_tel.specs.Configs.{viewConfigs}
 use Rattle.events_tel.proofs.Configs.{view-size as configs-size}
 use Rattle.codec.specs.Layout.{joined}
 use Rattle.codec.proofs.CodesList.{joined-snoc}
-use Rattle.registry_state.specs.States.{Registry, viewRegistry, registryBytes, noSaid, noSn}
+use Rattle.registry_state.specs.States.{viewRegistry, registryBytes, noSaid, noSn}
 use Rattle.registry_state.specs.declared.state.RegistryState.{RegistryState}
 use Rattle.registry_state.proofs.StateLoops.{length-registry}
 use Rattle.cesr.specs.Primitives.{none}
