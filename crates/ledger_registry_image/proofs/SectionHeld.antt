@@ -22,7 +22,7 @@ use Rattle.registry_state.specs.States.{Registry, readRegistry, isBacker}
 use Rattle.registry_state.specs.declared.state.RegistryState.{RegistryState}
 use Rattle.ledger_step.specs.Ledgers.{heldOf}
 use Rattle.ledger_step.specs.Steps.{heldNow}
-use Rattle.ledger_registry_image.specs.RegistrySections.{registriesIn, lettered, heldRead, Stored}
+use Rattle.ledger_registry_image.specs.RegistrySections.{registriesIn, wellLetters, heldRead, Stored}
 
 record Tells {A : Type 0} (p : Reader A) (good : A → Bool) : Type 0 where
   says : (s : List ℕ) (c : Cursor) → p s c .next .ok ≡ true → (c .ok ≡ true) × (good (p s c .value) ≡ true)
@@ -111,22 +111,22 @@ tells-prefixes : Tells readPrefixes (all isBacker)
 unfolding readPrefixes
 tells-prefixes = record { says = λ s c h. tells-section readPrefix isBacker tells-prefix 16 .says s c h }
 
-tells-registry : Tells readRegistry lettered
-unfolding readRegistry lettered
+tells-registry : Tells readRegistry wellLetters
+unfolding readRegistry wellLetters
 tells-registry =
     let k = tells-both tells-said (tells-both tells-identifier (tells-both tells-number (tells-both tells-said (tells-both tells-quad (tells-both tells-configs tells-prefixes))))) in
     record { says = λ s c h. k .says s c h }
 
-all-held : (gs : List Registry) → all lettered gs ≡ true → map heldRead gs ≡ map heldNow gs
+all-held : (gs : List Registry) → all wellLetters gs ≡ true → map heldRead gs ≡ map heldNow gs
 unfolding all
 all-held [] h = refl
 all-held (g ∷ gs) h =
-    let e = and-left (lettered g) (all lettered gs) h in
-    let r = all-held gs (and-right (lettered g) (all lettered gs) h) in
+    let e = and-left (wellLetters g) (all wellLetters gs) h in
+    let r = all-held gs (and-right (wellLetters g) (all wellLetters gs) h) in
     λ i. record { well = e i; state = g } ∷ r i
 
 -- Where the reader has not stopped, the registries that were stored are well formed, and are those that were read.
 pub stored-held : (s : List ℕ) (count : ℕ) (before after : List RegistryState) → Stored s count before after → registriesIn s (min count (length before)) .next .ok ≡ true → map heldOf (take (min count (length before)) after) ≡ map heldNow (registriesIn s (min count (length before)) .value)
 unfolding registriesIn
 stored-held s count before after h ok =
-    h .held ∙ all-held (registriesIn s (min count (length before)) .value) (tells-times readRegistry lettered tells-registry (min count (length before)) .says s (placed 2) ok .1)
+    h .held ∙ all-held (registriesIn s (min count (length before)) .value) (tells-times readRegistry wellLetters tells-registry (min count (length before)) .says s (placed 2) ok .1)
