@@ -19,14 +19,14 @@ use Rattle.codec_cursor.specs.declared.cursor.Cursor.{Cursor}
 use Rattle.registry_state.specs.States.{Registry, viewRegistry, wellRegistry, readRegistry}
 use Rattle.registry_state.specs.declared.state.RegistryState.{RegistryState}
 use Rattle.ledger_step.specs.Ledgers.{heldOf}
-use Rattle.ledger_registry_image.specs.RegistrySections.{registriesIn, lettered, heldRead, Stored}
+use Rattle.ledger_registry_image.specs.RegistrySections.{registriesIn, wellLetters, heldRead, Stored}
 
 -- the registry with other lists
 abbrev pub relisted : RegistryState → Configs → Members → RegistryState
 relisted g cs ms = record { id = g .id; issuer = g .issuer; sn = g .sn; latest = g .latest; toad = g .toad; configs = cs; backers = ms }
 
 pub trimmed-held : (g : RegistryState) (cs : Configs) (ms : Members) → (viewConfigs cs ≡ viewConfigs (g .configs)) × (cs .count ≤ 8) → (view ms ≡ view (g .backers)) × (ms .count ≤ 16) → heldOf (relisted g cs ms) ≡ heldRead (viewRegistry g)
-unfolding wellRegistry lettered
+unfolding wellRegistry wellLetters
 trimmed-held g cs ms h k = rw (h .0, k .0, le-leb (cs .count) 8 (h .1), le-leb (ms .count) 16 (k .1))
 
 module _ (bs : List ℕ) where
