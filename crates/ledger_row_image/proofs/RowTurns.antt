@@ -139,18 +139,7 @@ module _ (bs : List ℕ) (a : ℕ) (ys : List CredentialState) where
       ∙ sym (sets-append ys 0 (rowsFrom bs a i) (readCredential bs (cursor i) .value ∷ []))
       ∙ ap (sets ys 0) (sym (from-more i))
 
--- ---- numbers, where t rows are left of n
-pub all-in : (n : ℕ) → n ≤ n
-all-in n = omega arith
-
-module _ {n t : ℕ} (f : suc t ≤ n) where
-  pub suc-is : suc (n - suc t) ≡ n - t
-  suc-is = omega arith
-
-  pub less : t ≤ n
-  less = omega arith
-
--- and the place of a row in the buffer, where there is room for the section
+-- ---- numbers: the place of a row in the buffer, where t rows are left of n and there is room for the section
 module _ {n m t : ℕ} (l : 2 + 115 * n ≤ m) (f : suc t ≤ n) (g : m < 2 ^ 64) where
   pub at-fits : 2 + 115 * (n - suc t) < 2 ^ 64
   at-fits = omega arith

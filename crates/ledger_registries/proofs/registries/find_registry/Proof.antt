@@ -53,8 +53,8 @@ use Rattle.cesr.specs.declared.primitive.Said.{Said}
 use Rattle.registry_state.specs.declared.state.RegistryState.{RegistryState}
 use Rattle.ledger_registries.specs.Registries.{blank, findRegistry}
 use Rattle.ledger_registries.proofs.Find.{Facts, hasId, at-start, at-end, at-hit, at-miss}
-use Rattle.ledger_registries.proofs.Places.{low, offset-fits}
-use Rattle.ledger_step.proofs.Turns.{below, there, here-fits, next-fits, next-is, none-passed, all-passed, none-left, holds-true, fails}
+use Rattle.ledger_registries.proofs.Places.{low}
+use Rattle.ledger_step.proofs.Turns.{offset-fits, below, there, here-fits, next-fits, next-is, none-passed, all-passed, none-left, holds-true, fails}
 use Rattle.cesr.proofs.primitive.Said as S
 use Rattle.cesr.proofs.primitive.Said.Laws as S′
 use Rattle.registry_state.proofs.state.RegistryState as T
@@ -213,7 +213,7 @@ module _ {M : Type 1} (𝓤 : URA M) (H : Heap 𝓤) (A : Atoms 𝓤) (W : Given
           assigns ! (bin ! (load ! (from ! (stop !)) (look ! 17 refl)) (load ! (from ! (stop !)) (look ! 19 refl)) tt) (from ! (stop !)) (init ! 11 refl (tt, tt)) $
           rewrite ! 11 (λ (z : Bool). ‵ (fat fullShare tyBool l₈ 0 (vbool z))) (lt-ltb (n - suc t) n (below l (f .0) n-fits)) refl $
           stays ! (load ! (from ! (stop !)) (look ! 11 refl)) $
-          assigns ! (bin ! (load ! (from ! (stop !)) (look ! 17 refl)) (lit ! tt) (record { fits = offset-fits (gn .1) (there l (f .0) n-fits) })) (from ! (stop !)) (init ! 9 refl (tt, record { fits = offset-fits (gn .1) (there l (f .0) n-fits) })) $
+          assigns ! (bin ! (load ! (from ! (stop !)) (look ! 17 refl)) (lit ! tt) (record { fits = offset-fits 808 (gn .1) (there l (f .0) n-fits) })) (from ! (stop !)) (init ! 9 refl (tt, record { fits = offset-fits 808 (gn .1) (there l (f .0) n-fits) })) $
           assigns ! (bin ! (load ! (from ! (fld ! refl (stop !))) (look-in ! 25 (sub ! 0 refl (whole !)))) (load ! (from ! (stop !)) (look ! 9 refl)) tt) (from ! (stop !)) (init ! 7 refl (tt, tt)) $
           rewrite ! 7 (λ (z : ℕ). ‵ (fat fullShare tyPtr l₁₀ 0 (vptr b z))) (sym (place-is 808 o (n - suc t))) refl $
           elem-out ! T.the-row (Is T.the-row) (shows 𝓤 H A T.the-row) (LL.vals T.the-type T′.the-laws) (LL.tells T.the-type T′.the-laws) q′ ys (n - suc t) blank b o (there l (f .0) n-fits) (λ g.

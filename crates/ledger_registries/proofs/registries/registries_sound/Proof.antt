@@ -52,8 +52,8 @@ use Rattle.registry_state.specs.declared.state.RegistryState.{RegistryState}
 use Rattle.registry_laws.specs.ReadingRules.{soundRegistry}
 use Rattle.ledger_step.specs.Ledgers.{heldOf, holds, registryRules}
 use Rattle.ledger_registries.specs.Registries.{blank, findRegistry}
-use Rattle.ledger_step.proofs.Turns.{below, there, here-fits, next-fits, next-is, none-passed, all-passed, none-left, fails}
-use Rattle.ledger_registries.proofs.Places.{low, offset-fits}
+use Rattle.ledger_step.proofs.Turns.{offset-fits, below, there, here-fits, next-fits, next-is, none-passed, all-passed, none-left, fails}
+use Rattle.ledger_registries.proofs.Places.{low}
 use Rattle.ledger_registries.proofs.Sound.{Facts, passesAt, enough, wrong-size, at-start, at-end, at-bad, at-good}
 use Rattle.cesr.proofs.primitive.Said as S
 use Rattle.cesr.proofs.primitive.Said.Laws as S′
@@ -233,7 +233,7 @@ module _ {M : Type 1} (𝓤 : URA M) (H : Heap 𝓤) (A : Atoms 𝓤) (W : Given
             assigns ! (bin ! (load ! (from ! (stop !)) (look ! 22 refl)) (load ! (from ! (stop !)) (look ! 24 refl)) tt) (from ! (stop !)) (init ! 10 refl (tt, tt)) $
             rewrite ! 10 (λ (z : Bool). ‵ (fat fullShare tyBool l₉ 0 (vbool z))) (lt-ltb (n - suc t) n (below l (f .0) n-fits)) refl $
             stays ! (load ! (from ! (stop !)) (look ! 10 refl)) $
-            assigns ! (bin ! (load ! (from ! (stop !)) (look ! 22 refl)) (lit ! tt) (record { fits = offset-fits (gn .1) (there l (f .0) n-fits) })) (from ! (stop !)) (init ! 8 refl (tt, record { fits = offset-fits (gn .1) (there l (f .0) n-fits) })) $
+            assigns ! (bin ! (load ! (from ! (stop !)) (look ! 22 refl)) (lit ! tt) (record { fits = offset-fits 808 (gn .1) (there l (f .0) n-fits) })) (from ! (stop !)) (init ! 8 refl (tt, record { fits = offset-fits 808 (gn .1) (there l (f .0) n-fits) })) $
             assigns ! (bin ! (load ! (from ! (fld ! refl (stop !))) (look-in ! 26 (sub ! 0 refl (whole !)))) (load ! (from ! (stop !)) (look ! 8 refl)) tt) (from ! (stop !)) (init ! 6 refl (tt, tt)) $
             rewrite ! 6 (λ (z : ℕ). ‵ (fat fullShare tyPtr l₁₁ 0 (vptr b z))) (sym (place-is 808 o (n - suc t))) refl $
             move ! (1 ∷ []) $ use1 W (‵ Own ⊛ ‵ Own) (shr-slice-copy 𝓤 H A W (named 0) κ T.the-row .twice (x .0) (at .0)) $ split ! $ fsplit ! $ drop ! $ fsplit ! $ drop ! $ move ! (0 ∷ 2 ∷ []) $

@@ -44,7 +44,8 @@ use denote.Steps.{owned, nothing}
 use denote.Triple.Table.{entered}
 use denote.Triple.Walked.{says, Stays, stay-none, stay-slice, walkOf, goes-none, goes-slice, Walks, ends-at, walked, walk-meets}
 use Rattle.ledger_registries.specs.Registries.{blank}
-use Rattle.ledger_registries.proofs.Places.{low, offset-fits}
+use Rattle.ledger_step.proofs.Turns.{offset-fits}
+use Rattle.ledger_registries.proofs.Places.{low}
 use Rattle.ledger_registries.proofs.registries.store_registry.Key.{name as #me}
 use Rattle.ledger_registries.proofs.registries.store_registry as me
 use Rattle.ledger_registries.proofs.registries.store_registry.Statement as stated
@@ -111,7 +112,7 @@ module _ {M : Type 1} (𝓤 : URA M) (H : Heap 𝓤) (A : Atoms 𝓤) (W : Given
           assigns ! (of-opd ! (load ! (from ! (fld ! refl (stop !))) (look-in ! 15 (sub ! 1 refl (whole !))))) (from ! (stop !)) (init ! 9 refl (tt, record { fits = gn .0 })) $
           assigns ! (bin ! (load ! (from ! (stop !)) (look ! 13 refl)) (load ! (from ! (stop !)) (look ! 9 refl)) tt) (from ! (stop !)) (init ! 7 refl (tt, tt)) $
           first ! $ branches ! (load ! (from ! (stop !)) (look ! 7 refl))
-          (λ hit. assigns ! (bin ! (load ! (from ! (stop !)) (look ! 13 refl)) (lit ! tt) (record { fits = offset-fits (gn .1) (ltb→lt i (length ys) hit) })) (from ! (stop !)) (init ! 5 refl (tt, record { fits = offset-fits (gn .1) (ltb→lt i (length ys) hit) })) $
+          (λ hit. assigns ! (bin ! (load ! (from ! (stop !)) (look ! 13 refl)) (lit ! tt) (record { fits = offset-fits 808 (gn .1) (ltb→lt i (length ys) hit) })) (from ! (stop !)) (init ! 5 refl (tt, record { fits = offset-fits 808 (gn .1) (ltb→lt i (length ys) hit) })) $
           assigns ! (bin ! (load ! (from ! (fld ! refl (stop !))) (look-in ! 15 (sub ! 0 refl (whole !)))) (load ! (from ! (stop !)) (look ! 5 refl)) tt) (from ! (stop !)) (init ! 3 refl (tt, tt)) $
           rewrite ! 3 (λ (z : ℕ). ‵ (fat fullShare tyPtr l₇ 0 (vptr b z))) (sym (place-is 808 o i)) refl $
           opens-slice ! tt T.the-row ys b o $ elem-out ! T.the-row (Is T.the-row) (shows 𝓤 H A T.the-row) (LL.vals T.the-type T′.the-laws) (LL.tells T.the-type T′.the-laws) fullShare ys i blank b o (ltb→lt i (length ys) hit) (λ _.

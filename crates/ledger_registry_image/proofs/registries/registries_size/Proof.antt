@@ -51,7 +51,7 @@ use Rattle.registry_state.specs.States.{viewRegistry, registryBytes}
 use Rattle.registry_state.specs.declared.state.RegistryState.{RegistryState}
 use Rattle.ledger_registry_image.specs.RegistrySections.{sectionOf}
 use Rattle.ledger_registry_image.proofs.SectionSizes.{blank, sized, sized-none, sized-all, used, Facts, at-start, few-enough, at-turn, end-fits}
-use Rattle.ledger_registry_image.proofs.Places.{offset-fits, below, there, next-fits, next-is, none-passed, all-passed, none-left}
+use Rattle.ledger_step.proofs.Turns.{offset-fits, below, there, next-fits, next-is, none-passed, all-passed, last-left}
 use Rattle.registry_state.proofs.state.RegistryState as T
 use Rattle.registry_state.proofs.state.RegistryState.Laws as T′
 use Rattle.ledger_registry_image.proofs.registries.section_count as cnt
@@ -189,7 +189,7 @@ module _ {M : Type 1} (𝓤 : URA M) (H : Heap 𝓤) (A : Atoms 𝓤) (W : Given
       unfolding afterTurn
       turn zero =
           heard ! (Facts ys n 0) (λ f. assigns ! (bin ! (load ! (from ! (stop !)) (look ! 12 refl)) (load ! (from ! (stop !)) (look ! 16 refl)) tt) (from ! (stop !)) (init ! 8 refl (tt, tt)) $
-          rewrite ! 8 (λ (z : Bool). ‵ (fat fullShare tyBool l₇ 0 (vbool z))) (none-left n) refl $
+          rewrite ! 8 (λ (z : Bool). ‵ (fat fullShare tyBool l₇ 0 (vbool z))) (last-left n) refl $
           leaves-loop ! (load ! (from ! (stop !)) (look ! 8 refl)) $ exec ! C Λ En mirᶠ.t-6 (atRet En Post) $
           assigns ! (of-opd ! (load ! (from ! (stop !)) (look ! 14 refl))) (from ! (stop !)) (init ! 22 refl (tt, record { fits = end-fits ys count f })) $
           returns ! (look ! 22 refl) $ forget ! 8 refl $ forget ! 12 refl $ forget ! 14 refl $ forget ! 16 refl $ forget ! 18 refl $ forget ! 20 refl $ forget ! 22 refl $
@@ -199,7 +199,7 @@ module _ {M : Type 1} (𝓤 : URA M) (H : Heap 𝓤) (A : Atoms 𝓤) (W : Given
           assigns ! (bin ! (load ! (from ! (stop !)) (look ! 12 refl)) (load ! (from ! (stop !)) (look ! 16 refl)) tt) (from ! (stop !)) (init ! 8 refl (tt, tt)) $
           rewrite ! 8 (λ (z : Bool). ‵ (fat fullShare tyBool l₇ 0 (vbool z))) (lt-ltb (n - suc t) n (below l (f .0) n-fits)) refl $
           stays ! (load ! (from ! (stop !)) (look ! 8 refl)) $
-          assigns ! (bin ! (load ! (from ! (stop !)) (look ! 12 refl)) (lit ! tt) (record { fits = offset-fits (gn .1) (there l (f .0) n-fits) })) (from ! (stop !)) (init ! 6 refl (tt, record { fits = offset-fits (gn .1) (there l (f .0) n-fits) })) $
+          assigns ! (bin ! (load ! (from ! (stop !)) (look ! 12 refl)) (lit ! tt) (record { fits = offset-fits 808 (gn .1) (there l (f .0) n-fits) })) (from ! (stop !)) (init ! 6 refl (tt, record { fits = offset-fits 808 (gn .1) (there l (f .0) n-fits) })) $
           assigns ! (bin ! (load ! (from ! (fld ! refl (stop !))) (look-in ! 20 (sub ! 0 refl (whole !)))) (load ! (from ! (stop !)) (look ! 6 refl)) tt) (from ! (stop !)) (init ! 4 refl (tt, tt)) $
           rewrite ! 4 (λ (z : ℕ). ‵ (fat fullShare tyPtr l₉ 0 (vptr b z))) (sym (place-is 808 o (n - suc t))) refl $
           move ! (1 ∷ []) $ use1 W (‵ Own ⊛ ‵ Own) (shr-slice-copy 𝓤 H A W (named 0) κ T.the-row .twice (x .0) (at .0)) $ split ! $ fsplit ! $ drop ! $ fsplit ! $ drop ! $ move ! (0 ∷ 2 ∷ []) $

@@ -59,7 +59,7 @@ use Rattle.ledger_step.specs.Ledgers.{heldOf}
 use Rattle.ledger_registry_image.specs.RegistrySections.{heldRead, Stored}
 use Rattle.ledger_registry_image.proofs.SectionSizes.{blank}
 use Rattle.ledger_registry_image.proofs.SectionReads.{after, after-none, after-more, Facts, at-start, at-turn, at-end}
-use Rattle.ledger_registry_image.proofs.Places.{offset-fits, below, there, next-fits, next-is, suc-is, none-passed, none-left}
+use Rattle.ledger_step.proofs.Turns.{offset-fits, below, there, next-fits, next-is, suc-is, none-passed, last-left}
 use Rattle.codec_cursor.proofs.cursor.Cursor as K
 use Rattle.codec_cursor.proofs.cursor.Cursor.Laws as K′
 use Rattle.registry_state.proofs.state.RegistryRead as R
@@ -230,7 +230,7 @@ module _ {M : Type 1} (𝓤 : URA M) (H : Heap 𝓤) (A : Atoms 𝓤) (W : Given
     inside = omega (arith, f .left, f .upto .long, l)
 
     goes-on : (r : RegistryRead) → Read (after bs (n - suc t)) r → r .next ≡ after bs (n - t)
-    goes-on r e = e .1 ∙ after-more bs (n - suc t) ∙ ap (after bs) (suc-is l (f .left) n-fits)
+    goes-on r e = e .1 ∙ after-more bs (n - suc t) ∙ ap (after bs) (suc-is (f .left))
 
     stored : (r : RegistryRead) → Read (after bs (n - suc t)) r → Cur (r .next) → Known t (set zs (n - suc t) (r .value))
     stored r e c = (at-turn bs ys n t zs (r .value) l f (e .0), subst Cur (goes-on r e) c)
@@ -266,7 +266,7 @@ module _ {M : Type 1} (𝓤 : URA M) (H : Heap 𝓤) (A : Atoms 𝓤) (W : Given
       turn zero =
           pick ! (λ zs. split ! $ move ! (1 ∷ []) $ heard ! (Known 0 zs) (λ h. move ! (1 ∷ 2 ∷ 0 ∷ []) $
           assigns ! (bin ! (load ! (from ! (stop !)) (look ! 16 refl)) (load ! (from ! (stop !)) (look ! 20 refl)) tt) (from ! (stop !)) (init ! 10 refl (tt, tt)) $
-          rewrite ! 10 (λ (z : Bool). ‵ (fat fullShare tyBool l₉ 0 (vbool z))) (none-left n) refl $
+          rewrite ! 10 (λ (z : Bool). ‵ (fat fullShare tyBool l₉ 0 (vbool z))) (last-left n) refl $
           leaves-loop ! (load ! (from ! (stop !)) (look ! 10 refl)) $ exec ! C Λ En mirᶠ.t-6 (atRet En Post) $
           assigns ! (of-opd ! (unit-lit !)) (from ! (stop !)) (init ! 28 refl (tt, tt)) $
           move ! (2 ∷ 3 ∷ 4 ∷ 5 ∷ []) $ closes-slice ! tt T.the-row ys zs (h .0 .upto .long) b′ o′ $
@@ -287,7 +287,7 @@ module _ {M : Type 1} (𝓤 : URA M) (H : Heap 𝓤) (A : Atoms 𝓤) (W : Given
           land ! (from ! (stop !)) (init ! 14 refl (LL.lawful R.the-type R′.the-laws 𝓤 H A W .typed r _ is .0)) $
           rewrite ! 14 (λ (z : Val). ‵ (fat fullShare R′.mir l₇ 0 (z))) (ap only (LL.tells R.the-type R′.the-laws r _ is)) refl $
           split ! $ move ! (1 ∷ []) $ drop ! $
-          assigns ! (bin ! (load ! (from ! (stop !)) (look ! 16 refl)) (lit ! tt) (record { fits = offset-fits (gn .1) (there l (h .0 .left) n-fits) })) (from ! (stop !)) (init ! 8 refl (tt, record { fits = offset-fits (gn .1) (there l (h .0 .left) n-fits) })) $
+          assigns ! (bin ! (load ! (from ! (stop !)) (look ! 16 refl)) (lit ! tt) (record { fits = offset-fits 808 (gn .1) (there l (h .0 .left) n-fits) })) (from ! (stop !)) (init ! 8 refl (tt, record { fits = offset-fits 808 (gn .1) (there l (h .0 .left) n-fits) })) $
           assigns ! (bin ! (load ! (from ! (fld ! refl (stop !))) (look-in ! 22 (sub ! 0 refl (whole !)))) (load ! (from ! (stop !)) (look ! 8 refl)) tt) (from ! (stop !)) (init ! 6 refl (tt, tt)) $
           rewrite ! 6 (λ (z : ℕ). ‵ (fat fullShare tyPtr l₁₁ 0 (vptr b′ z))) (sym (place-is 808 o′ (n - suc t))) refl $
           move ! (2 ∷ []) $ elem-out ! T.the-row (Is T.the-row) (shows 𝓤 H A T.the-row) (LL.vals T.the-type T′.the-laws) (LL.tells T.the-type T′.the-laws) fullShare zs (n - suc t) blank b′ o′ (inside t zs (h .0)) (λ _.

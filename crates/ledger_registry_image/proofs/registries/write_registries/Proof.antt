@@ -55,10 +55,10 @@ use Rattle.laws.specs.Room.{put}
 use Rattle.registry_state.specs.States.{viewRegistry, registryBytes}
 use Rattle.registry_state.specs.declared.state.RegistryState.{RegistryState}
 use Rattle.ledger_registry_image.specs.RegistrySections.{sectionOf}
-use Rattle.ledger_registry_image.proofs.Relend.{Kept, relends, backs}
+use Rattle.ledger_step.proofs.Relend.{Kept, relends, backs}
 use Rattle.ledger_registry_image.proofs.SectionSizes.{blank, sized, sized-none, sized-more}
 use Rattle.ledger_registry_image.proofs.SectionWrites.{following, few-following, headed, wrote, wrote-none, wrote-long, wrote-more, next-room, wrote-all}
-use Rattle.ledger_registry_image.proofs.Places.{offset-fits, below, there, next-fits, next-is, suc-is, less, none-passed, all-passed, none-left}
+use Rattle.ledger_step.proofs.Turns.{offset-fits, below, there, next-fits, next-is, suc-is, less, none-passed, all-passed, last-left}
 use Rattle.registry_state.proofs.state.RegistryState as T
 use Rattle.registry_state.proofs.state.RegistryState.Laws as T′
 use Rattle.ledger_registry_image.proofs.registries.registries_size as size
@@ -231,10 +231,10 @@ module _ {M : Type 1} (𝓤 : URA M) (H : Heap 𝓤) (A : Atoms 𝓤) (W : Given
       at-fits = omega (arith, next-room xs count bs (n - suc t) (below l f n-fits), gb .0)
 
       next-at : (r : ℕ) → r ≡ sized xs (n - suc t) + length (registryBytes (viewRegistry (getD xs (n - suc t) blank))) → r ≡ sized xs (n - t)
-      next-at r e = e ∙ sized-more xs (n - suc t) (there l f n-fits) ∙ ap (sized xs) (suc-is l f n-fits)
+      next-at r e = e ∙ sized-more xs (n - suc t) (there l f n-fits) ∙ ap (sized xs) (suc-is f)
 
       written : (zs : List ℕ) → zs ≡ sets (wrote xs count bs (n - suc t)) (sized xs (n - suc t)) (registryBytes (viewRegistry (getD xs (n - suc t) blank))) → zs ≡ wrote xs count bs (n - t)
-      written zs e = e ∙ (wrote-more xs count bs (n - suc t) (there l f n-fits) ∙ ap (wrote xs count bs) (suc-is l f n-fits))
+      written zs e = e ∙ (wrote-more xs count bs (n - suc t) (there l f n-fits) ∙ ap (wrote xs count bs) (suc-is f))
 
     module _ (l₀ l₁ l₂ l₃ l₄ l₅ l₆ l₇ l₈ l₉ l₁₀ l₁₁ l₁₂ l₁₃ l₁₄ l₁₅ l₁₆ : ℕ) where
       abbrev En : Env 𝓤 H
@@ -259,7 +259,7 @@ module _ {M : Type 1} (𝓤 : URA M) (H : Heap 𝓤) (A : Atoms 𝓤) (W : Given
       unfolding afterTurn
       turn zero =
           heard ! (zero ≤ n) (λ _. assigns ! (bin ! (load ! (from ! (stop !)) (look ! 23 refl)) (load ! (from ! (stop !)) (look ! 27 refl)) tt) (from ! (stop !)) (init ! 15 refl (tt, tt)) $
-          rewrite ! 15 (λ (z : Bool). ‵ (fat fullShare tyBool l₁₁ 0 (vbool z))) (none-left n) refl $
+          rewrite ! 15 (λ (z : Bool). ‵ (fat fullShare tyBool l₁₁ 0 (vbool z))) (last-left n) refl $
           leaves-loop ! (load ! (from ! (stop !)) (look ! 15 refl)) $ exec ! C Λ En mirᶠ.t-9 (atRet En Post) $
           assigns ! (of-opd ! (unit-lit !)) (from ! (stop !)) (init ! 37 refl (tt, tt)) $
           returns ! (look ! 37 refl) $ forget ! 15 refl $ forget ! 23 refl $ forget ! 25 refl $ forget ! 27 refl $ forget ! 29 refl $ forget ! 31 refl $ forget ! 33 refl $ forget ! 35 refl $ forget ! 37 refl $
@@ -270,7 +270,7 @@ module _ {M : Type 1} (𝓤 : URA M) (H : Heap 𝓤) (A : Atoms 𝓤) (W : Given
           stays ! (load ! (from ! (stop !)) (look ! 15 refl)) $
           assigns ! (addr ! (from ! (fld ! refl (hop ! (look-in ! 31 (sub ! 0 refl (whole !))) (stop !))))) (from ! (stop !)) (init ! 13 refl (tt, tt)) $
           assigns ! (agg ! (and-then ! (load ! (from ! (stop !)) (look ! 13 refl)) (and-then ! (load ! (from ! (fld ! refl (stop !))) (look-in ! 31 (sub ! 1 refl (whole !)))) (no-more !)))) (from ! (stop !)) (init ! 11 refl (tt, (tt, (record { fits = gb .0 }, tt)))) $
-          assigns ! (bin ! (load ! (from ! (stop !)) (look ! 23 refl)) (lit ! tt) (record { fits = offset-fits (gn .1) (there l f n-fits) })) (from ! (stop !)) (init ! 9 refl (tt, record { fits = offset-fits (gn .1) (there l f n-fits) })) $
+          assigns ! (bin ! (load ! (from ! (stop !)) (look ! 23 refl)) (lit ! tt) (record { fits = offset-fits 808 (gn .1) (there l f n-fits) })) (from ! (stop !)) (init ! 9 refl (tt, record { fits = offset-fits 808 (gn .1) (there l f n-fits) })) $
           assigns ! (bin ! (load ! (from ! (fld ! refl (stop !))) (look-in ! 35 (sub ! 0 refl (whole !)))) (load ! (from ! (stop !)) (look ! 9 refl)) tt) (from ! (stop !)) (init ! 7 refl (tt, tt)) $
           rewrite ! 7 (λ (z : ℕ). ‵ (fat fullShare tyPtr l₁₅ 0 (vptr b z))) (sym (place-is 808 o (n - suc t))) refl $
           move ! (1 ∷ []) $ use1 W (‵ Own ⊛ ‵ Own) (shr-slice-copy 𝓤 H A W (named 0) κ T.the-row .twice (x .0) (at .0)) $ split ! $ fsplit ! $ drop ! $ fsplit ! $ drop ! $ move ! (0 ∷ 2 ∷ []) $
@@ -298,7 +298,7 @@ module _ {M : Type 1} (𝓤 : URA M) (H : Heap 𝓤) (A : Atoms 𝓤) (W : Given
           assigns-last ! (bin ! (load ! (from ! (stop !)) (look ! 23 refl)) (lit ! tt) (record { fits = next-fits l f n-fits })) (from ! (stop !)) (store ! 23 refl (tt, record { fits = next-fits l f n-fits })) $
           forget ! 5 refl $ forget ! 7 refl $ forget ! 9 refl $ forget ! 11 refl $ forget ! 13 refl $ forget ! 15 refl $
           rewrite ! 23 (λ (z : ℕ). ‵ (fat fullShare word l₇ 0 (vint w64 z))) (next-is l f n-fits) refl $
-          use0 W (raw (fact 𝓤 (t ≤ n))) (factI 𝓤 (t ≤ n) (emp 𝓤) (less l f n-fits)) $
+          use0 W (raw (fact 𝓤 (t ≤ n))) (factI 𝓤 (t ≤ n) (emp 𝓤) (less f)) $
           again ! _<_ Inv (suc t) t (lt-suc-self t))))))))))))
 
       started : headed xs count bs ≡ wrote xs count bs (n - n)

@@ -64,12 +64,12 @@ use Rattle.registry_state.proofs.state.CredentialState.read.Symbol as rd-def
 use Rattle.registry_state.proofs.state.CredentialState.read.Symbol.{name as #read}
 use Rattle.registry_state.proofs.state.CredentialState.read.Met as rd-thm
 use Rattle.ledger_step.proofs.Relend.{Kept, relends, backs}
-use Rattle.ledger_step.proofs.Turns.{below, here-fits, next-fits, next-is, none-passed, all-passed, none-left}
+use Rattle.ledger_step.proofs.Turns.{all-in, less, suc-is, below, here-fits, next-fits, next-is, none-passed, all-passed, none-left}
 use Rattle.ledger_rows.proofs.rows.store_row as st
 use Rattle.ledger_rows.proofs.rows.store_row.Symbol as st-def
 use Rattle.ledger_rows.proofs.rows.store_row.Symbol.{name as #store}
 use Rattle.ledger_rows.proofs.rows.store_row.Met as st-thm
-use Rattle.ledger_row_image.proofs.RowTurns.{all-in, less, suc-is, read, read-long, read-none, read-more, cursor, cursor-none, cursor-more}
+use Rattle.ledger_row_image.proofs.RowTurns.{read, read-long, read-none, read-more, cursor, cursor-none, cursor-more}
 use Rattle.ledger_row_image.proofs.row_image.store_rows.Key.{name as #me}
 use Rattle.ledger_row_image.proofs.row_image.store_rows as me
 use Rattle.ledger_row_image.proofs.row_image.store_rows.Statement as stated

@@ -64,10 +64,9 @@ use Rattle.ledger_image.proofs.image.write_count.Symbol as co-def
 use Rattle.ledger_image.proofs.image.write_count.Symbol.{name as #count}
 use Rattle.ledger_image.proofs.image.write_count.Met as co-thm
 use Rattle.ledger_step.proofs.Relend.{Kept, relends, backs}
-use Rattle.ledger_step.proofs.Turns.{below, there, next-fits, next-is, none-passed, all-passed, none-left, fails}
-use Rattle.ledger_rows.proofs.Places.{offset-fits}
+use Rattle.ledger_step.proofs.Turns.{offset-fits, all-in, less, suc-is, below, there, next-fits, next-is, none-passed, all-passed, none-left, fails}
 use Rattle.ledger_row_image.specs.RowImages.{writtenRows}
-use Rattle.ledger_row_image.proofs.RowTurns.{all-in, less, suc-is, at-fits, room-for, next-at-fits, next-at, first-at, count-fits, wrote, wrote-long, wrote-none, wrote-more, fits, enough-rows, enough-room, wrote-all, not-written}
+use Rattle.ledger_row_image.proofs.RowTurns.{at-fits, room-for, next-at-fits, next-at, first-at, count-fits, wrote, wrote-long, wrote-none, wrote-more, fits, enough-rows, enough-room, wrote-all, not-written}
 use Rattle.ledger_row_image.proofs.row_image.section_fits as fi
 use Rattle.ledger_row_image.proofs.row_image.section_fits.Symbol as fi-def
 use Rattle.ledger_row_image.proofs.row_image.section_fits.Symbol.{name as #fits}
@@ -249,7 +248,7 @@ module _ {M : Type 1} (𝓤 : URA M) (H : Heap 𝓤) (A : Atoms 𝓤) (W : Given
             heard ! (suc t ≤ n) (λ f. assigns ! (bin ! (load ! (from ! (stop !)) (look ! 31 refl)) (load ! (from ! (stop !)) (look ! 37 refl)) tt) (from ! (stop !)) (init ! 15 refl (tt, tt)) $
             rewrite ! 15 (λ (z : Bool). ‵ (fat fullShare tyBool l₁₃ 0 (vbool z))) (lt-ltb (n - suc t) n (below few f n-fits)) refl $
             stays ! (load ! (from ! (stop !)) (look ! 15 refl)) $
-            assigns ! (bin ! (load ! (from ! (stop !)) (look ! 31 refl)) (lit ! tt) (record { fits = offset-fits (gn .1) (there few f n-fits) })) (from ! (stop !)) (init ! 13 refl (tt, record { fits = offset-fits (gn .1) (there few f n-fits) })) $
+            assigns ! (bin ! (load ! (from ! (stop !)) (look ! 31 refl)) (lit ! tt) (record { fits = offset-fits 136 (gn .1) (there few f n-fits) })) (from ! (stop !)) (init ! 13 refl (tt, record { fits = offset-fits 136 (gn .1) (there few f n-fits) })) $
             assigns ! (bin ! (load ! (from ! (fld ! refl (stop !))) (look-in ! 39 (sub ! 0 refl (whole !)))) (load ! (from ! (stop !)) (look ! 13 refl)) tt) (from ! (stop !)) (init ! 11 refl (tt, tt)) $
             rewrite ! 11 (λ (z : ℕ). ‵ (fat fullShare tyPtr l₁₅ 0 (vptr b z))) (sym (place-is 136 o (n - suc t))) refl $
             move ! (1 ∷ []) $ use1 W (‵ Own ⊛ ‵ Own) (shr-slice-copy 𝓤 H A W (named 0) κ T.the-row .twice (x .0) (at .0)) $ split ! $ fsplit ! $ drop ! $ fsplit ! $ drop ! $ move ! (0 ∷ 2 ∷ []) $

@@ -48,7 +48,7 @@ use Rattle.registry_state.proofs.state.CredentialState.none as none
 use Rattle.registry_state.proofs.state.CredentialState.none.Symbol as none-def
 use Rattle.registry_state.proofs.state.CredentialState.none.Symbol.{name as #none}
 use Rattle.registry_state.proofs.state.CredentialState.none.Met as none-thm
-use Rattle.ledger_rows.proofs.Places.{offset-fits}
+use Rattle.ledger_step.proofs.Turns.{offset-fits}
 use Rattle.ledger_rows.proofs.rows.read_row.Key.{name as #me}
 use Rattle.ledger_rows.proofs.rows.read_row as me
 use Rattle.ledger_rows.proofs.rows.read_row.Statement as stated
@@ -121,7 +121,7 @@ module _ {M : Type 1} (𝓤 : URA M) (H : Heap 𝓤) (A : Atoms 𝓤) (W : Given
           assigns ! (of-opd ! (load ! (from ! (fld ! refl (stop !))) (look-in ! 14 (sub ! 1 refl (whole !))))) (from ! (stop !)) (init ! 10 refl (tt, record { fits = gn .0 })) $
           assigns ! (bin ! (load ! (from ! (stop !)) (look ! 12 refl)) (load ! (from ! (stop !)) (look ! 10 refl)) tt) (from ! (stop !)) (init ! 8 refl (tt, tt)) $
           first ! $ branches ! (load ! (from ! (stop !)) (look ! 8 refl))
-          (λ hit. assigns ! (bin ! (load ! (from ! (stop !)) (look ! 12 refl)) (lit ! tt) (record { fits = offset-fits (gn .1) (ltb→lt i (length ys) hit) })) (from ! (stop !)) (init ! 6 refl (tt, record { fits = offset-fits (gn .1) (ltb→lt i (length ys) hit) })) $
+          (λ hit. assigns ! (bin ! (load ! (from ! (stop !)) (look ! 12 refl)) (lit ! tt) (record { fits = offset-fits 136 (gn .1) (ltb→lt i (length ys) hit) })) (from ! (stop !)) (init ! 6 refl (tt, record { fits = offset-fits 136 (gn .1) (ltb→lt i (length ys) hit) })) $
           assigns ! (bin ! (load ! (from ! (fld ! refl (stop !))) (look-in ! 14 (sub ! 0 refl (whole !)))) (load ! (from ! (stop !)) (look ! 6 refl)) tt) (from ! (stop !)) (init ! 4 refl (tt, tt)) $
           rewrite ! 4 (λ (z : ℕ). ‵ (fat fullShare tyPtr l₆ 0 (vptr b z))) (sym (place-is 136 o i)) refl $
           move ! (1 ∷ []) $ use1 W (‵ Own ⊛ ‵ Own) (shr-slice-copy 𝓤 H A W (named 0) κ T.the-row .twice (x .0) (at .0)) $ split ! $ fsplit ! $ drop ! $ fsplit ! $ drop ! $ move ! (0 ∷ 2 ∷ []) $
