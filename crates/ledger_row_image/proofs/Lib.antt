@@ -1,2 +1,1 @@
-pub mod Relend
 pub mod RowTurns

@@ -1,4 +1,4 @@
--- The part of a `&κ mut [T]` that begins at element a and has k elements, lent as `&κ′ mut [T]` for a lifetime κ′ of a call, which comes back at the list that the callee leaves: `Borrow/Rule/Slice/PartMut.antt`'s `sl-relendᵐ` and `sl-relent-backᵐ`, in the form that a walk by hand uses. For a whole slice it is `ledger_row_image`'s `Relend.antt`. It says nothing of the crate.
+-- The part of a `&κ mut [T]` that begins at element a and has k elements, lent as `&κ′ mut [T]` for a lifetime κ′ of a call, which comes back at the list that the callee leaves: `Borrow/Rule/Slice/PartMut.antt`'s `sl-relendᵐ` and `sl-relent-backᵐ`, in the form that a walk by hand uses. For a whole slice it is `ledger_step`'s `Relend.antt`. It says nothing of the crate.
 --     KeptPart      what the holder keeps meanwhile, the part being lent under the name γ₁
 --     part-lends    given `Room`, and the place p where the part begins:  obs γ ∗ the borrow at κ ∗ [κ]_q  ⊢ ⇛ ∃ γ₁. own (the `&κ′ mut [T]` ((b, p), γ₁, the part), at the machine value s) ∗ KeptPart γ₁
 --     part-backs    [†κ′] ∗ KeptPart γ₁ ∗ finally γ₁ zs  ⊢ ⇛ (obs γ ∗ the borrow at κ ∗ [κ]_q), at the list with zs in the part's place
