@@ -27,7 +27,7 @@ use Rattle.ledger_image.specs.Images.{stateOf, statesOf, ledgerBytes, imageByte
 use Rattle.ledger_image.proofs.ImageLength.{length-wide, length-image}
 use Rattle.ledger_registry_image.specs.RegistrySections.{sectionOf}
 use Rattle.ledger_row_image.specs.RowImages.{writtenRows}
-use Rattle.ledger_write.specs.Writes.{answerOf, viewWritten}
+use Rattle.ledger_write.specs.Writes.{answerOf, viewWritten, withSections}
 use Rattle.ledger_write.specs.declared.write.Written as Code
 
 states-are : (gs : List RegistryState) → map stateOf (map heldOf gs) ≡ map viewRegistry gs
@@ -104,18 +104,28 @@ module _ (gs : List RegistryState) (m : ℕ) (ws : List CredentialState) (n : �
       unfolding writtenRows
       second-is = rw (le-leb n (length ws) few-rows) (put-sets part 0 (2 + 115 * n) (credentialSection (take n ws)) second-long (omega (arith, part-counted)))
 
-      last-is : last ≡ sets bs 0 (ledgerBytes ledger)
-      last-is =
-          let s = sectionOf gs m in
+      -- the part, back in its place, and the first section before it
+      last-sections : last ≡ withSections (sectionOf gs m) (credentialSection (take n ws)) bs
+      unfolding withSections
+      last-sections =
           let c = credentialSection (take n ws) in
-          let stored : putMid first (length headed - first) headed (sets (midOf first (length headed - first) headed) 0 c) ≡ sets headed first c = part-stored first headed (sets (midOf first (length headed - first) headed) 0 c) c (rw headed-long (omega arith)) refl in
+          let p = sets (midOf first (length headed - first) headed) 0 c in
+          let stored : putMid first (length headed - first) headed p ≡ sets headed first c = part-stored first headed p c (rw headed-long (omega arith)) refl in
           ap (putMid first rest headed) second-is
           ∙ ap (λ (k : ℕ). putMid first (k - first) headed (sets (midOf first (k - first) headed) 0 c)) (sym headed-long)
           ∙ stored
-          ∙ ap (λ (l : List ℕ). sets l first c) (put-sets bs 0 first s refl (omega arith))
-          ∙ ap (λ (k : ℕ). sets (sets bs 0 s) k c) (sym (zero-add first))
-          ∙ sym (sets-append bs 0 s c)
-          ∙ ap (sets bs 0) (sym bytes-are)
+          ∙ ap (λ (l : List ℕ). sets l first c) (put-sets bs 0 first (sectionOf gs m) refl (omega arith))
+
+      -- both are the image
+      sections-are : withSections (sectionOf gs m) (credentialSection (take n ws)) bs ≡ sets bs 0 (ledgerBytes ledger)
+      unfolding withSections
+      sections-are =
+          let s = sectionOf gs m in
+          let c = credentialSection (take n ws) in
+          ap (λ (k : ℕ). sets (sets bs 0 s) k c) (sym (zero-add first)) ∙ sym (sets-append bs 0 s c) ∙ ap (sets bs 0) (sym bytes-are)
+
+      last-is : last ≡ sets bs 0 (ledgerBytes ledger)
+      last-is = last-sections ∙ sections-are
 
   -- what is answered, by the two tests
   abbrev tested : Bool → Bool → Code.Written

@@ -3,6 +3,8 @@ use Prim.Native.Nat.{ℕ, _+_, _*_}
 use mathlib.Core.Bool.{Bool, cond}
 use mathlib.Core.List.{List}
 use lib.Dec.{leb}
+use lib.ListN.{length}
+use lib.Seq.{sets}
 use Rattle.ledger_image.specs.Images.{Written}
 use Rattle.ledger_write.specs.declared.write.Written as Code
 
@@ -16,3 +18,7 @@ answerOf ok first n room =
     cond ok
     (cond (leb (first + (2 + 115 * n)) room) (record { number = 0; size = first + (2 + 115 * n) }) (record { number = 30; size = 0 }))
     (record { number = 1; size = 0 })
+
+-- the buffer when both sections are written: the second stands behind the first, and the bytes behind it are those that were there
+unfoldable pub withSections : List ℕ → List ℕ → List ℕ → List ℕ
+withSections first second out = sets (sets out 0 first) (length first) second
