@@ -5,7 +5,7 @@
 --     first-fits, headed-long, part-long, last-long    the lengths
 use Prim.Native.Nat.{ℕ, _+_, _-_, _*_, _≤_}
 use mathlib.Core.Path.{_≡_, refl, ap, sym, _∙_}
-use mathlib.Core.Bool.{Bool, true, false, cond, true≢false}
+use mathlib.Core.Bool.{Bool, true, false, true≢false}
 use mathlib.Core.List.{List, [], _∷_, _++_, map}
 use native.Mathlib.Nat.{min-eq-left, zero-add}
 use native.Mathlib.Omega.{arith}
@@ -27,7 +27,7 @@ use Rattle.ledger_image.specs.Images.{stateOf, statesOf, ledgerBytes, imageByte
 use Rattle.ledger_image.proofs.ImageLength.{length-wide, length-image}
 use Rattle.ledger_registry_image.specs.RegistrySections.{sectionOf}
 use Rattle.ledger_row_image.specs.RowImages.{writtenRows}
-use Rattle.ledger_write.specs.Writes.{answerOf, viewWritten, withSections}
+use Rattle.ledger_write.specs.Writes.{imageSize, answerOf, viewWritten, withSections}
 use Rattle.ledger_write.specs.declared.write.Written as Code
 
 states-are : (gs : List RegistryState) → map stateOf (map heldOf gs) ≡ map viewRegistry gs
@@ -50,8 +50,12 @@ module _ (gs : List RegistryState) (m : ℕ) (ws : List CredentialState) (n : �
   abbrev pub first : ℕ
   first = length (sectionOf gs m)
 
+  -- whether the buffer has room, and what is answered
+  abbrev enough : Bool
+  enough = leb (imageSize first n) (length bs)
+
   abbrev pub answer : Code.Written
-  answer = answerOf (sound ledger) first n (length bs)
+  answer = answerOf (sound ledger) enough (imageSize first n)
 
   -- the buffer when the first section is written, the part behind it, and the buffer when the second is written to that part
   abbrev pub headed : List ℕ
@@ -92,11 +96,11 @@ module _ (gs : List RegistryState) (m : ℕ) (ws : List CredentialState) (n : �
     second-long : length (credentialSection (take n ws)) ≡ 2 + 115 * n
     second-long = length-credentials (take n ws) ∙ ap (λ (k : ℕ). 2 + 115 * k) (length-take-le n ws few-rows)
 
-    size-is : length (ledgerBytes ledger) ≡ first + (2 + 115 * n)
+    size-is : length (ledgerBytes ledger) ≡ imageSize first n
     size-is = ap (λ (l : List ℕ). length l) bytes-are ∙ length-append (sectionOf gs m) (credentialSection (take n ws)) ∙ ap (λ (k : ℕ). first + k) second-long
 
     -- both sections, where there is room for them
-    module _ (fits : first + (2 + 115 * n) ≤ length bs) where
+    module _ (fits : imageSize first n ≤ length bs) where
       part-counted : length part ≡ rest
       part-counted = mid-len first (length bs) headed (rw headed-long (omega arith))
 
@@ -127,15 +131,9 @@ module _ (gs : List RegistryState) (m : ℕ) (ws : List CredentialState) (n : �
       last-is : last ≡ sets bs 0 (ledgerBytes ledger)
       last-is = last-sections ∙ sections-are
 
-  -- what is answered, by the two tests
-  abbrev tested : Bool → Bool → Code.Written
-  tested t u = cond t (cond u (record { number = 0; size = first + (2 + 115 * n) }) (record { number = 30; size = 0 })) (record { number = 1; size = 0 })
-
-  abbrev enough : Bool
-  enough = leb (first + (2 + 115 * n)) (length bs)
-
   -- where nothing is refused, both tests hold
-  both-hold : (t u : Bool) → eqb (tested t u .number) 0 ≡ true → (t ≡ true) × (u ≡ true)
+  both-hold : (t u : Bool) → eqb (answerOf t u (imageSize first n) .number) 0 ≡ true → (t ≡ true) × (u ≡ true)
+  unfolding answerOf
   both-hold true true h = (refl, refl)
   both-hold true false h = (refl, h)
   both-hold false true h = (h, refl)
@@ -143,11 +141,10 @@ module _ (gs : List RegistryState) (m : ℕ) (ws : List CredentialState) (n : �
 
   module _ (taken : eqb (answer .number) 0 ≡ true) where
     holds-both : (sound ledger ≡ true) × (enough ≡ true)
-    unfolding answerOf
     holds-both = both-hold (sound ledger) enough taken
 
-    room-is : first + (2 + 115 * n) ≤ length bs
-    room-is = leb-true (first + (2 + 115 * n)) (length bs) (holds-both .1)
+    room-is : imageSize first n ≤ length bs
+    room-is = leb-true (imageSize first n) (length bs) (holds-both .1)
 
     pub first-fits : first ≤ length bs
     first-fits = omega (arith, room-is)
@@ -162,12 +159,11 @@ module _ (gs : List RegistryState) (m : ℕ) (ws : List CredentialState) (n : �
     unfolding answerOf writtenOf
     written-all = rw (holds-both .0, size-is (holds-both .0), holds-both .1, last-is (holds-both .0) room-is)
 
-  refused-by : (t u : Bool) → eqb (tested t u .number) 0 ≡ false → sound ledger ≡ t → enough ≡ u → viewWritten (tested t u) bs ≡ writtenOf ledger bs
-  unfolding writtenOf
+  refused-by : (t u : Bool) → eqb (answerOf t u (imageSize first n) .number) 0 ≡ false → sound ledger ≡ t → enough ≡ u → viewWritten (answerOf t u (imageSize first n)) bs ≡ writtenOf ledger bs
+  unfolding answerOf writtenOf
   refused-by true true h e f = absurd (true≢false h)
   refused-by true false h e f = rw (e, size-is e, f)
   refused-by false u h e f = rw e
 
   pub refused-all : eqb (answer .number) 0 ≡ false → viewWritten answer bs ≡ writtenOf ledger bs
-  unfolding answerOf
   refused-all h = refused-by (sound ledger) enough h refl refl

@@ -2,7 +2,6 @@
 use Prim.Native.Nat.{ℕ, _+_, _*_}
 use mathlib.Core.Bool.{Bool, cond}
 use mathlib.Core.List.{List}
-use lib.Dec.{leb}
 use lib.ListN.{length}
 use lib.Seq.{sets}
 use Rattle.ledger_image.specs.Images.{Written}
@@ -12,12 +11,13 @@ use Rattle.ledger_write.specs.declared.write.Written as Code
 abbrev pub viewWritten : Code.Written → List ℕ → Written
 viewWritten r out = record { number = r .number; size = r .size; bytes = out }
 
--- the answer by the sizes: whether the reading rules are kept, the bytes of the first section, the rows, and the buffer's length
-unfoldable pub answerOf : Bool → ℕ → ℕ → ℕ → Code.Written
-answerOf ok first n room =
-    cond ok
-    (cond (leb (first + (2 + 115 * n)) room) (record { number = 0; size = first + (2 + 115 * n) }) (record { number = 30; size = 0 }))
-    (record { number = 1; size = 0 })
+-- how many bytes an image has, by those of its first section and the rows: two more for the count of the rows, and 115 for each
+abbrev pub imageSize : ℕ → ℕ → ℕ
+imageSize first n = first + (2 + 115 * n)
+
+-- the answer, by whether the reading rules are kept and whether the buffer has room, and by the image's size
+unfoldable pub answerOf : Bool → Bool → ℕ → Code.Written
+answerOf ok fits size = cond ok (cond fits (record { number = 0; size = size }) (record { number = 30; size = 0 })) (record { number = 1; size = 0 })
 
 -- the buffer when both sections are written: the second stands behind the first, and the bytes behind it are those that were there
 unfoldable pub withSections : List ℕ → List ℕ → List ℕ → List ℕ

@@ -7,11 +7,10 @@ use registry_state::state::CredentialState;
 use registry_state::state::RegistryState;
 ghost use mathlib.Core.Path.{_≡_};
 ghost use mathlib.Core.Bool.{not};
-ghost use Prim.Native.Nat.{_+_, _*_};
 ghost use lib.Dec.{eqb, leb};
 ghost use Rattle.ledger_step.specs.Ledgers.{lentLedger};
 ghost use Rattle.ledger_image.specs.Images.{writtenOf};
-ghost use Rattle.ledger_write.specs.Writes.{answerOf, viewWritten};
+ghost use Rattle.ledger_write.specs.Writes.{imageSize, answerOf, viewWritten};
 
 // What writing an image answers: 0, or the refusal 1 or 30, and how many bytes the image has, or 0 after a refusal.
 pub struct Written {
@@ -21,7 +20,7 @@ pub struct Written {
 
 // Whether the buffer has room for the first section, of `first` bytes, and the second: two bytes for its count and 115 for each row.
 fn has_room(first: usize, row_count: usize, room: usize) -> bool
-    ensures { λ r. ⌜ r ≡ leb (first + (2 + 115 * «row_count»)) room ⌝ }
+    ensures { λ r. ⌜ r ≡ leb (imageSize first «row_count») room ⌝ }
 {
     if room < 2 {
         return false;
@@ -32,9 +31,9 @@ fn has_room(first: usize, row_count: usize, room: usize) -> bool
     row_count <= (room - 2 - first) / 115
 }
 
-// What is answered, by the sizes: a ledger that breaks a reading rule is refused first, then a buffer that is too short.
+// What is answered: a ledger that breaks a reading rule is refused first, then a buffer that is too short.
 fn writing(ok: bool, first: usize, row_count: usize, room: usize) -> Written
-    ensures { λ r. ⌜ r ≡ answerOf ok first «row_count» room ⌝ }
+    ensures { λ r. ⌜ r ≡ answerOf ok (leb (imageSize first «row_count») room) (imageSize first «row_count») ⌝ }
 {
     if ok {
         if has_room(first, row_count, room) {

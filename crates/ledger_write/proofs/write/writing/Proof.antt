@@ -1,17 +1,17 @@
 use mathlib.Core.Path.{_≡_, sym, _∙_}
 use mathlib.Core.Bool.{Bool, true}
-use Prim.Native.Nat.{ℕ, _+_, _*_, _≤_}
+use Prim.Native.Nat.{ℕ, _≤_}
 use native.Mathlib.Omega.{arith}
 use borrow.Author.Needs.{needs}
 use borrow.Author.Tests.{leb-true}
 use lib.Dec.{leb}
-use Rattle.ledger_write.specs.Writes.{answerOf}
+use Rattle.ledger_write.specs.Writes.{imageSize, answerOf}
 use Rattle.ledger_write.proofs.write.writing.Statement.{statement}
 use Rattle.ledger_write.proofs.write.writing.Tie as tie
 
 -- where there is room, the sizes are below it
-below : (first n room : ℕ) (t : Bool) → t ≡ leb (first + (2 + 115 * n)) room → t ≡ true → first + (2 + 115 * n) ≤ room
-below first n room t e h = leb-true (first + (2 + 115 * n)) room (sym e ∙ h)
+below : (first n room : ℕ) (t : Bool) → t ≡ leb (imageSize first n) room → t ≡ true → imageSize first n ≤ room
+below first n room t e h = leb-true (imageSize first n) room (sym e ∙ h)
 
 has-room-requires : tie.Need-has-room-requires
 has-room-requires c κs = search needs
