@@ -31,7 +31,8 @@ lettered g =
 abbrev pub heldRead : Registry → Held
 heldRead g = record { well = lettered g; state = g }
 
--- the registries before and after the first count are stored, as many as there are places for; the other places stay
+-- what storing count registries of an image comes to: as many as there are places for are held as they were read, and the other places stay
 pub record Stored (s : List ℕ) (count : ℕ) (before after : List RegistryState) : Type 0 where
+  pub long : length after ≡ length before
   pub held : map heldOf (take (min count (length before)) after) ≡ map heldRead (registriesIn s (min count (length before)) .value)
   pub rest : drop (min count (length before)) after ≡ drop (min count (length before)) before

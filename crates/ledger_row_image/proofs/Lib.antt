@@ -1,1 +1,2 @@
+pub mod RowSections
 pub mod RowTurns
