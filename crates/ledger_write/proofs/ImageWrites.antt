@@ -9,7 +9,7 @@ use mathlib.Core.Bool.{Bool, true, false, true≢false}
 use mathlib.Core.List.{List, [], _∷_, _++_, map}
 use native.Mathlib.Nat.{min-eq-left, zero-add}
 use native.Mathlib.Omega.{arith}
-use borrow.Author.Tests.{leb-true, eqb-true, le-leb}
+use borrow.Author.Tests.{leb-true, eqb-true}
 use borrow.Rule.Slice.PartMut.{midOf, putMid, mid-len}
 use lib.Dec.{eqb, leb}
 use lib.ListN.{length, take, length-append}
@@ -27,6 +27,7 @@ use Rattle.ledger_image.specs.Images.{stateOf, statesOf, ledgerBytes, imageByte
 use Rattle.ledger_image.proofs.ImageLength.{length-wide, length-image}
 use Rattle.ledger_registry_image.specs.RegistrySections.{sectionOf}
 use Rattle.ledger_row_image.specs.RowImages.{writtenRows}
+use Rattle.ledger_row_image.proofs.RowSections.{written-section}
 use Rattle.ledger_write.specs.Writes.{imageSize, answerOf, viewWritten, withSections}
 use Rattle.ledger_write.specs.declared.write.Written as Code
 
@@ -105,8 +106,7 @@ module _ (gs : List RegistryState) (m : ℕ) (ws : List CredentialState) (n : �
       part-counted = mid-len first (length bs) headed (rw headed-long (omega arith))
 
       second-is : writtenRows ws n part ≡ sets part 0 (credentialSection (take n ws))
-      unfolding writtenRows
-      second-is = rw (le-leb n (length ws) few-rows) (put-sets part 0 (2 + 115 * n) (credentialSection (take n ws)) second-long (omega (arith, part-counted)))
+      second-is = written-section ws n part few-rows ∙ put-sets part 0 (2 + 115 * n) (credentialSection (take n ws)) second-long (omega (arith, part-counted))
 
       -- the part, back in its place, and the first section before it
       last-sections : last ≡ withSections (sectionOf gs m) (credentialSection (take n ws)) bs
