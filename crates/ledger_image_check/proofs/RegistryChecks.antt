@@ -34,6 +34,7 @@ use Rattle.ledger_step.proofs.Rules.{said-test}
 use Rattle.ledger_step.proofs.TableLaws.{all-weaker}
 use Rattle.ledger_image.specs.Images.{wideCount, wideSection, readRegistries}
 use Rattle.ledger_image_check.specs.Checks.{idIn, registriesPass, sectionPasses}
+use Rattle.ledger_image_check.proofs.Sticky.{registry-sticky}
 use Rattle.ledger_image_check.proofs.OneMore.{distinct-snoc}
 
 -- the rules that registries keep, together
@@ -50,13 +51,13 @@ one-more gs g =
     go true true d h = refl
     go true false d h = sym (and-false d)
 
-pub pass-registries : (s : List ℕ) → Bytes s → (c : Cursor) (n : ℕ) → times n readRegistry s c .next .ok ≡ true → registriesPass s c n ≡ apartAndSound (times n readRegistry s c .value)
+pub pass-registries : (s : List ℕ) (c : Cursor) (n : ℕ) → times n readRegistry s c .next .ok ≡ true → registriesPass s c n ≡ apartAndSound (times n readRegistry s c .value)
 unfolding times registriesPass all distinct
-pass-registries s b c zero h = refl
-pass-registries s b c (suc n) h =
+pass-registries s c zero h = refl
+pass-registries s c (suc n) h =
     let r = times n readRegistry s c in
     let g = readRegistry s (r .next) in
-    let before = pass-registries s b c n (codes-registry .sound s (r .next) b h .ok) in
+    let before = pass-registries s c n (registry-sticky .before s (r .next) h) in
     rw (before, h) (sym (one-more (r .value) (g .value)))
 
 -- where the loop over the registries stands: behind i of them, with their ids, and whether each passed

@@ -2,7 +2,6 @@
 use Prim.Native.Nat.{ℕ, zero, suc, _+_, _*_}
 use mathlib.Core.Bool.{Bool, true, false, not, _&&_}
 use mathlib.Core.List.{List, [], _∷_, _++_, map}
-use lib.Dec.{leb}
 use lib.ListN.{length, getD, take}
 use Rattle.cesr.specs.Numbers.{value}
 use Rattle.cesr.specs.Primitives.{eqSaid, readMatter}

@@ -1,7 +1,5 @@
-use native.Mathlib.Omega.{arith}
 use borrow.Author.Needs.{needs}
 use denote.Ref.{now}
-use Rattle.laws.specs.Number.{Bytes}
 use Rattle.codec.specs.Events.{viewCountRead}
 use Rattle.ledger_image_check.specs.Checks.{viewIds}
 use Rattle.ledger_image_check.proofs.CheckLaws.{Made, answer-held, answer-rows, answer-refused, rows-fit}
@@ -35,11 +33,8 @@ known c =
       ended = c .ends-there .ensures;
     }
 
-bytes : (c : tie.After-ends-there) → Bytes (now (c .before .before .before .before .args .image))
-bytes c = λ i. omega (arith, c .before .before .before .shared-slice-known .given i)
-
 check-rows-requires : tie.Need-check-rows-requires
-check-rows-requires c κs = let b3 = c .before .before .before in rows-fit _ (bytes b3) _ _ _ _ _ (known b3) (c .if1 .taken)
+check-rows-requires c κs = let b3 = c .before .before .before in rows-fit _ _ _ _ _ _ (known b3) (c .if1 .taken)
 
 size-requires : tie.Need-size-requires
 size-requires c κs = search needs
@@ -50,16 +45,16 @@ returns c =
     let b2 = b1 .before in
     let b3 = b2 .before in
     let b6 = b3 .before .before .before in
-    answer-held _ (bytes b6) _ _ _ _ _ (known b6) (b3 .if1 .taken) _ (b2 .check-rows .ensures) (b1 .if2 .taken) _ (c .size .ensures .0)
+    answer-held _ _ _ _ _ _ (known b6) (b3 .if1 .taken) _ (b2 .check-rows .ensures) (b1 .if2 .taken) _ (c .size .ensures .0)
 
 returns-2 : tie.Need-returns-2
 returns-2 c =
     let b1 = c .before in
     let b5 = b1 .before .before .before .before in
-    answer-rows _ (bytes b5) _ _ _ _ _ (known b5) _ (b1 .check-rows .ensures) (c .if2 .left)
+    answer-rows _ _ _ _ _ _ (known b5) _ (b1 .check-rows .ensures) (c .if2 .left)
 
 returns-3 : tie.Need-returns-3
-returns-3 c = let b3 = c .before .before .before in answer-refused _ (bytes b3) _ _ _ _ _ (known b3) (c .if1 .left)
+returns-3 c = let b3 = c .before .before .before in answer-refused _ _ _ _ _ _ (known b3) (c .if1 .left)
 
 pub check-image-spec : {M : Type 1} → statement M
 check-image-spec =
