@@ -1,0 +1,1 @@
+-- An image that is read is the ledger that is held afterwards.
