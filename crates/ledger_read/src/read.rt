@@ -21,8 +21,7 @@ pub struct ImageRead {
 
 // What is to be stored of the image: nothing where it is refused, and nothing in slices of other lengths than 16 and 256.
 fn planned(image: &[u8], registry_slots: usize, row_slots: usize) -> Checked
-    ensures plan { λ r. ⌜ viewChecked r ≡ planOf «registry_slots» «row_slots» (now (image .entry)) ⌝ }
-    ensures bytes { λ r. ⌜ Bytes (now (image .entry)) ⌝ }
+    ensures { λ r. ⌜ (viewChecked r ≡ planOf «registry_slots» «row_slots» (now (image .entry))) × Bytes (now (image .entry)) ⌝ }
 {
     let checked = check_image(image);
     if (registry_slots == 16) & (row_slots == 256) {
