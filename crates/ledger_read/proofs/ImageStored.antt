@@ -1,5 +1,7 @@
 -- What the two loops leave, where they store what the check of an image lets them store.
 --     held-again        states within their limits are held as those of an image are
+--     into-held         an image that is held came into slices of 16 registries and 256 rows
+--     few-rows          and has at most 256 rows
 --     Done, done        the counts, the rows and the registries afterwards are those that the answer to the image asks for
 use Prim.Native.Nat.{ℕ, _+_, _-_, _≤_, min}
 use native.Mathlib.Nat.{zero-min}
@@ -70,6 +72,19 @@ isHeld : ImageAnswer → Bool
 isHeld refused = false
 isHeld (held gs ws) = true
 
+not-held : (gs : List Registry) (ws : List CredentialState) → refused ≡ held gs ws → ⊥
+unfolding isHeld
+not-held gs ws e = false≢true (ap isHeld e)
+
+-- what is held came into slices of 16 registries and 256 rows
+pub into-held : (m n : ℕ) (s : List ℕ) (gs : List Registry) (ws : List CredentialState) → imageInto m n s ≡ held gs ws → (imageOf s ≡ held gs ws) × ((m ≡ 16) × (n ≡ 256))
+unfolding imageInto
+into-held m n s gs ws e = go (eqb m 16 && eqb n 256) refl e
+  where
+    go : (t : Bool) → (eqb m 16 && eqb n 256) ≡ t → cond t (imageOf s) refused ≡ held gs ws → (imageOf s ≡ held gs ws) × ((m ≡ 16) × (n ≡ 256))
+    go true h e = (e, (eqb-true m 16 (and-left (eqb m 16) (eqb n 256) h), eqb-true n 256 (and-right (eqb m 16) (eqb n 256) h)))
+    go false h e = absurd (not-held gs ws e)
+
 module _ (s : List ℕ) (gs : List Registry) (ws : List CredentialState) (e : imageOf s ≡ held gs ws) where
   -- where its first row stands
   abbrev first : ℕ
@@ -95,6 +110,9 @@ module _ (s : List ℕ) (gs : List Registry) (ws : List CredentialState) (e : im
 
   few : length gs ≤ 16
   few = again .few-registries
+
+  pub few-rows : length ws ≤ 256
+  few-rows = again .few-rows
 
   good : Bytes s → all goodRegistry gs ≡ true
   unfolding goodImage goodRegistries
@@ -142,12 +160,6 @@ module _ (s : List ℕ) (b : Bytes s) (gs : List RegistryState) (ws : List Crede
       let p = placed-all gs′ ws′ e l gs1 st in
       record { number = λ m n. refl; counts = λ m n. refl; rows = ap (sets ws 0) (rows-again s gs′ ws′ e); registries = p; long = p .long }
 
-  -- slices of these lengths
-  taken-in : (t : Bool) → (eqb (length gs) 16 && eqb (length ws) 256) ≡ t → (gs′ : List Registry) (ws′ : List CredentialState) → cond t (imageOf s) refused ≡ held gs′ ws′ → (imageOf s ≡ held gs′ ws′) × (length gs ≡ 16)
-  unfolding isHeld
-  taken-in true h gs′ ws′ e = (e, eqb-true (length gs) 16 (and-left (eqb (length gs) 16) (eqb (length ws) 256) h))
-  taken-in false h gs′ ws′ e = absurd (false≢true (ap isHeld e))
-
   pub done : (p : ImageCheck) → p ≡ planOf (length gs) (length ws) s → (gs1 : List RegistryState) → Stored s (p .registries) gs gs1 → Done (imageInto (length gs) (length ws) s) p gs gs1 ws (sets ws 0 (rowsFrom s (p .rowsAt) (p .rows)))
   unfolding planOf imageInto
   done p h gs1 st = go (imageInto (length gs) (length ws) s) refl
@@ -158,5 +170,5 @@ module _ (s : List ℕ) (b : Bytes s) (gs : List RegistryState) (ws : List Crede
           rw (e, k) (done-refused gs1 (rw k at st))
       go (held gs′ ws′) e =
           let k : p ≡ checkedBy start (held gs′ ws′) = h ∙ ap (checkedBy start) e in
-          let t = taken-in (eqb (length gs) 16 && eqb (length ws) 256) refl gs′ ws′ e in
-          rw (e, k) (done-held gs′ ws′ (t .0) (t .1) gs1 (rw k at st))
+          let t = into-held (length gs) (length ws) s gs′ ws′ e in
+          rw (e, k) (done-held gs′ ws′ (t .0) (t .1 .0) gs1 (rw k at st))
