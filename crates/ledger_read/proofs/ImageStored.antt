@@ -12,18 +12,17 @@ use mathlib.Core.List.{List, [], _∷_, map}
 use borrow.Author.Tests.{eqb-true}
 use lib.Dec.{eqb, leb}
 use lib.ListN.{length, take, drop, length-take, length-drop, length-map}
-use lib.Seq.{sets, length-sets}
+use lib.Seq.{sets}
 use Rattle.laws.specs.Number.{Bytes}
 use Rattle.laws.proofs.Tests.{and-left, and-right}
 use Rattle.cesr.specs.Primitives.{isBasic, isSaid}
 use Rattle.codec_cursor.specs.Readers.{starting, placed, isIdentifier, times}
-use Rattle.codec.specs.Events.{isConfig}
 use Rattle.codec.specs.Layout.{all, isMatter, goodSaid, goodIdentifier, goodSn, goodToad, goodConfigs, goodPrefix, goodPrefixes}
 use Rattle.codec.proofs.Codes.{and-true}
 use Rattle.registry_state.specs.States.{Registry, readRegistry, readCredential, goodRegistry, isBacker}
 use Rattle.registry_state.specs.declared.state.RegistryState.{RegistryState}
 use Rattle.registry_state.specs.declared.state.CredentialState.{CredentialState}
-use Rattle.ledger_step.specs.Ledgers.{Held, heldOf}
+use Rattle.ledger_step.specs.Ledgers.{heldOf}
 use Rattle.ledger_step.specs.Steps.{heldNow}
 use Rattle.ledger_step.proofs.TableLaws.{all-weaker}
 use Rattle.ledger_image.specs.Images.{ImageAnswer, imageNumber, goodImage, goodRegistries, goodCredentials, readRegistries, imageOf, imageInto}

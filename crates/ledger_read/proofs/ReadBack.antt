@@ -6,9 +6,9 @@
 --     read-again      an image that was read writes again to the same bytes
 use Prim.Native.Nat.{ℕ, _+_, _≤_}
 use native.Mathlib.Omega.{arith}
-use mathlib.Core.Path.{_≡_, refl, sym, ap, _∙_}
-use mathlib.Core.Bool.{Bool, true}
-use mathlib.Core.List.{List, [], _∷_, map}
+use mathlib.Core.Path.{_≡_, refl, ap, _∙_}
+use mathlib.Core.Bool.{true}
+use mathlib.Core.List.{List, map}
 use lib.ListN.{length, take, drop}
 use lib.Seq.{sets, length-sets, sets-eq, take-at}
 use Rattle.laws.specs.Number.{Bytes}

@@ -1,5 +1,5 @@
 use native.Mathlib.Omega.{arith}
-use mathlib.Core.Path.{_≡_, ap, sym, _∙_}
+use mathlib.Core.Path.{_≡_, _∙_}
 use mathlib.Core.Bool.{Bool, cond, true, false, _&&_}
 use Prim.Native.Nat.{ℕ, _+_}
 use mathlib.Core.List.{List}
@@ -8,7 +8,7 @@ use borrow.Author.Needs.{needs}
 use denote.Ref.{now}
 use Rattle.laws.specs.Number.{Bytes}
 use Rattle.codec_cursor.specs.Readers.{starting}
-use Rattle.ledger_image.specs.Images.{ImageAnswer, readRegistries, imageOf, imageInto}
+use Rattle.ledger_image.specs.Images.{readRegistries, imageOf, imageInto}
 use Rattle.ledger_image.specs.Images.ImageAnswer.{refused}
 use Rattle.ledger_image_check.specs.Checks.{ImageCheck, checkedBy, checkedOf}
 use Rattle.ledger_read.specs.ImageReads.{planOf}
