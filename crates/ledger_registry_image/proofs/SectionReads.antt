@@ -2,36 +2,31 @@
 --     trimmed-held         a registry with the counts of its lists, as it is held
 --     after                the cursor behind the first i registries
 --     Facts, at-start, at-turn, at-end   what holds where t registries are left of n: before the first turn, after a turn, and at the end
-use Prim.Native.Nat.{ℕ, zero, suc, _+_, _-_, _<_, _≤_, min}
+use Prim.Native.Nat.{ℕ, suc, _+_, _-_, _<_, _≤_, min}
 use mathlib.Core.Path.{_≡_, refl, ap, sym, _∙_}
-use mathlib.Core.Bool.{Bool, true, _&&_}
-use mathlib.Core.List.{List, [], _∷_, _++_, map}
+use mathlib.Core.List.{List, [], _∷_, _++_, map, map-append}
 use native.Mathlib.Numerals.{add-one}
 use native.Mathlib.Omega.{arith}
 use borrow.Author.Tests.{le-leb}
-use lib.Dec.{leb}
 use lib.ListN.{length, take, drop, set, length-set}
 use lib.Seq.{take-suc-set, drop-set-lt, drop-drop}
 use Rattle.events.specs.Members.{view}
 use Rattle.events.specs.declared.member_set.Members.{Members}
 use Rattle.events_tel.specs.Configs.{viewConfigs}
 use Rattle.events_tel.specs.declared.config.Configs.{Configs}
-use Rattle.codec_cursor.specs.Readers.{Read, placed, times}
+use Rattle.codec_cursor.specs.Readers.{placed, times}
 use Rattle.codec_cursor.specs.declared.cursor.Cursor.{Cursor}
-use Rattle.codec.specs.Events.{isConfig}
-use Rattle.codec.specs.Layout.{all}
-use Rattle.registry_state.specs.States.{Registry, viewRegistry, wellRegistry, readRegistry, isBacker}
+use Rattle.registry_state.specs.States.{Registry, viewRegistry, wellRegistry, readRegistry}
 use Rattle.registry_state.specs.declared.state.RegistryState.{RegistryState}
-use Rattle.ledger_step.specs.Ledgers.{Held, heldOf}
-use Rattle.ledger_registry_image.specs.RegistrySections.{registriesIn, lettered, heldRead, Stored}
-use Rattle.ledger_registry_image.proofs.SectionSizes.{map-snoc}
+use Rattle.ledger_step.specs.Ledgers.{heldOf}
+use Rattle.ledger_registry_image.specs.RegistrySections.{registriesIn, wellLetters, heldRead, Stored}
 
 -- the registry with other lists
 abbrev pub relisted : RegistryState → Configs → Members → RegistryState
 relisted g cs ms = record { id = g .id; issuer = g .issuer; sn = g .sn; latest = g .latest; toad = g .toad; configs = cs; backers = ms }
 
 pub trimmed-held : (g : RegistryState) (cs : Configs) (ms : Members) → (viewConfigs cs ≡ viewConfigs (g .configs)) × (cs .count ≤ 8) → (view ms ≡ view (g .backers)) × (ms .count ≤ 16) → heldOf (relisted g cs ms) ≡ heldRead (viewRegistry g)
-unfolding wellRegistry lettered
+unfolding wellRegistry wellLetters
 trimmed-held g cs ms h k = rw (h .0, k .0, le-leb (cs .count) 8 (h .1), le-leb (ms .count) 16 (k .1))
 
 module _ (bs : List ℕ) where
@@ -67,8 +62,8 @@ module _ (bs : List ℕ) where
     -- and one more
     upto-more : (i : ℕ) (zs : List RegistryState) (g : RegistryState) → i < length ys → Upto i zs → heldOf g ≡ heldRead (readRegistry bs (after i) .value) → Upto (suc i) (set zs i g)
     upto-more i zs g l u e =
-        let a : map heldOf (take (suc i) (set zs i g)) ≡ map heldOf (take i zs) ++ (heldOf g ∷ []) = ap (map heldOf) (take-suc-set zs i g (omega (arith, u .long, l))) ∙ map-snoc heldOf (take i zs) g in
-        let b : map heldRead (values (suc i)) ≡ map heldRead (values i) ++ (heldRead (readRegistry bs (after i) .value) ∷ []) = ap (map heldRead) (values-more i) ∙ map-snoc heldRead (values i) (readRegistry bs (after i) .value) in
+        let a : map heldOf (take (suc i) (set zs i g)) ≡ map heldOf (take i zs) ++ (heldOf g ∷ []) = ap (map heldOf) (take-suc-set zs i g (omega (arith, u .long, l))) ∙ map-append heldOf (take i zs) (g ∷ []) in
+        let b : map heldRead (values (suc i)) ≡ map heldRead (values i) ++ (heldRead (readRegistry bs (after i) .value) ∷ []) = ap (map heldRead) (values-more i) ∙ map-append heldRead (values i) (readRegistry bs (after i) .value ∷ []) in
         let cut : (l : List RegistryState) → drop (suc i) l ≡ drop 1 (drop i l) = λ l. ap (λ (k : ℕ). drop k l) (sym (add-one i)) ∙ sym (drop-drop 1 i l) in
         let m : map heldOf (take i zs) ++ (heldOf g ∷ []) ≡ map heldRead (values i) ++ (heldRead (readRegistry bs (after i) .value) ∷ []) = rw (u .held, e) in
         record {
@@ -96,4 +91,4 @@ module _ (bs : List ℕ) where
     at-end count zs f =
         let n = min count (length ys) in
         let e : n - 0 ≡ n = omega arith in
-        record { held = rw e at (f .upto .held); rest = rw e at (f .upto .rest) }
+        record { long = f .upto .long; held = rw e at (f .upto .held); rest = rw e at (f .upto .rest) }

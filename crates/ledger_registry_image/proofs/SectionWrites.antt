@@ -1,13 +1,13 @@
 -- How a section of registries is written, one registry at a time, as a loop goes.
 --     head-room, head-full     what the count leaves and answers, with room for the section and without
---     followers                how many registries follow the count
+--     following                how many registries follow the count
 --     wrote                    the buffer when i registries are written
 --     wrote-none, wrote-more, wrote-all   none, one more, and all of them
 --     next-room                each registry finds room
-use Prim.Native.Nat.{ℕ, zero, suc, _+_, _-_, _^_, _<_, _≤_, min}
+use Prim.Native.Nat.{ℕ, zero, suc, _+_, _-_, _<_, _≤_}
 use mathlib.Core.Path.{_≡_, refl, ap, sym, _∙_, subst}
 use mathlib.Core.Bool.{Bool, true, false, cond}
-use mathlib.Core.List.{List, [], _∷_, _++_}
+use mathlib.Core.List.{List}
 use native.Mathlib.Nat.{add-zero, add-suc}
 use native.Mathlib.Omega.{arith}
 use borrow.Author.Tests.{le-leb, lt-leb, leb-true, leb-false}
@@ -46,8 +46,8 @@ module _ (xs : List RegistryState) (count : ℕ) (bs : List ℕ) where
   abbrev pub fits : Bool
   fits = leb (length (sectionOf xs count)) (length bs)
 
-  abbrev pub followers : ℕ
-  followers = cond fits (used xs count) 0
+  abbrev pub following : ℕ
+  following = cond fits (used xs count) 0
 
   -- the buffer with the count
   abbrev pub headed : List ℕ
@@ -56,8 +56,8 @@ module _ (xs : List RegistryState) (count : ℕ) (bs : List ℕ) where
   abbrev pub wrote : ℕ → List ℕ
   wrote i = sets headed 2 (bytesOf xs i)
 
-  pub few-followers : followers ≤ used xs count
-  few-followers = go fits
+  pub few-following : following ≤ used xs count
+  few-following = go fits
     where
       go : (t : Bool) → cond t (used xs count) 0 ≤ used xs count
       go true = omega arith
@@ -81,7 +81,7 @@ module _ (xs : List RegistryState) (count : ℕ) (bs : List ℕ) where
   wrote-more i l = sym (sets-append headed 2 (bytesOf xs i) (registryBytes (viewRegistry (getD xs i blank)))) ∙ ap (λ (l : List ℕ). sets headed 2 l) (sym (bytes-more xs i l))
 
   -- registry i of those that follow
-  pub next-room : (i : ℕ) → i < followers → sized xs i + length (registryBytes (viewRegistry (getD xs i blank))) ≤ length bs
+  pub next-room : (i : ℕ) → i < following → sized xs i + length (registryBytes (viewRegistry (getD xs i blank))) ≤ length bs
   next-room i h = go fits refl h
     where
       go : (t : Bool) → fits ≡ t → i < cond t (used xs count) 0 → sized xs i + length (registryBytes (viewRegistry (getD xs i blank))) ≤ length bs
@@ -89,7 +89,7 @@ module _ (xs : List RegistryState) (count : ℕ) (bs : List ℕ) where
           omega (arith, sized-more xs i (omega arith), sized-fits xs (suc i) (used xs count) (omega arith) (omega arith), sized-all xs count, leb-true (length (sectionOf xs count)) (length bs) e)
       go false e h = absurd (omega arith)
 
-  pub wrote-all : wrote followers ≡ put bs 0 (sectionOf xs count)
+  pub wrote-all : wrote following ≡ put bs 0 (sectionOf xs count)
   wrote-all = go fits refl
     where
       go : (t : Bool) → fits ≡ t → sets (cond t (put bs 0 (digits 2 (used xs count))) bs) 2 (bytesOf xs (cond t (used xs count) 0)) ≡ put bs 0 (sectionOf xs count)

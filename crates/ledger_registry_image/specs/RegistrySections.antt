@@ -22,16 +22,17 @@ unfoldable pub registriesIn : List ℕ → ℕ → Read (List Registry)
 registriesIn s n = times n readRegistry s (placed 2)
 
 -- whether its letters and config bytes are within the limits
-unfoldable pub lettered : Registry → Bool
-lettered g =
+unfoldable pub wellLetters : Registry → Bool
+wellLetters g =
     isSaid (g .id .0)
     && (isIdentifier (g .issuer) && (isSaid (g .latest .0) && (all isConfig (g .configs) && all isBacker (g .backers))))
 
 -- a registry that was read, as it is held: its counts are within the limits
 abbrev pub heldRead : Registry → Held
-heldRead g = record { well = lettered g; state = g }
+heldRead g = record { well = wellLetters g; state = g }
 
--- the registries before and after the first count are stored, as many as there are places for; the other places stay
+-- what storing count registries of an image comes to: as many as there are places for are held as they were read, and the other places stay
 pub record Stored (s : List ℕ) (count : ℕ) (before after : List RegistryState) : Type 0 where
+  pub long : length after ≡ length before
   pub held : map heldOf (take (min count (length before)) after) ≡ map heldRead (registriesIn s (min count (length before)) .value)
   pub rest : drop (min count (length before)) after ≡ drop (min count (length before)) before
