@@ -1,7 +1,9 @@
 -- The check of an image, from the tests that it makes.
---     image-tested             they hold exactly where the image is read as a ledger
---     checked-held             then the answer is its counts and where its first row stands
---     checked-refused          and otherwise zeros
+--     image-tested       they hold exactly where the image is read as a ledger
+--     checked-held       then the answer is its counts and where its first row stands
+--     checked-refused    and otherwise zeros
+--     Made, answer-held, answer-rows, answer-refused, rows-fit
+--                        the same from what the calls of the code gave
 use Prim.Native.Nat.{ℕ, _+_, _*_, _≤_}
 use mathlib.Core.Path.{_≡_, refl, ap, sym, _∙_}
 use mathlib.Core.Bool.{Bool, true, false, cond, _&&_, and-false}

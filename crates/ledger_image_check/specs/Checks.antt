@@ -15,7 +15,7 @@ use Rattle.ledger_step.specs.Tables.{has}
 use Rattle.ledger_step.specs.Ledgers.{eqPair, hasRegistry, zeroOrOne}
 use Rattle.ledger_image.specs.Images.{ImageAnswer, wideCount, readRegistries, imageOf}
 use Rattle.ledger_image.specs.Images.ImageAnswer.{refused, held}
-use Rattle.ledger_image_check.specs.declared.check.Checked.{Checked}
+use Rattle.ledger_image_check.specs.declared.image.Checked.{Checked}
 use Rattle.ledger_image_check.specs.declared.ids.Ids.{Ids}
 
 -- what a check answers: whether the image is a ledger's, its counts, and the byte at which the first row stands

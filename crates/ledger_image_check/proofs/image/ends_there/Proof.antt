@@ -5,8 +5,8 @@ use native.Mathlib.Omega.{arith}
 use borrow.Author.Needs.{needs}
 use borrow.Author.Tests.{eq-eqb, ne-eqb, eqb-true, eqb-false}
 use lib.Dec.{eqb}
-use Rattle.ledger_image_check.proofs.check.ends_there.Statement.{statement}
-use Rattle.ledger_image_check.proofs.check.ends_there.Tie as tie
+use Rattle.ledger_image_check.proofs.image.ends_there.Statement.{statement}
+use Rattle.ledger_image_check.proofs.image.ends_there.Tie as tie
 
 -- a sum moved across the test
 ends : (n at len : ℕ) → at ≤ len → eqb n (len - at) ≡ eqb (at + n) len

@@ -4,8 +4,8 @@ use Rattle.codec.specs.Events.{viewCountRead}
 use Rattle.ledger_image_check.specs.Checks.{viewIds}
 use Rattle.ledger_image_check.proofs.CheckLaws.{Made, answer-held, answer-rows, answer-refused, rows-fit}
 use Rattle.ledger_image_check.proofs.Counts.{count-within}
-use Rattle.ledger_image_check.proofs.check.check_image.Statement.{statement}
-use Rattle.ledger_image_check.proofs.check.check_image.Tie as tie
+use Rattle.ledger_image_check.proofs.image.check_image.Statement.{statement}
+use Rattle.ledger_image_check.proofs.image.check_image.Tie as tie
 
 check-registries-requires : tie.Need-check-registries-requires
 check-registries-requires c κs = search needs
