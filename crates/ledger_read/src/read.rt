@@ -1,13 +1,12 @@
 // The image is judged whole before a state is stored: of an image that is refused nothing is stored, so what was held is held on.
-use ledger_image_check::check::Checked;
-use ledger_image_check::check::check_image;
+use ledger_image_check::image::Checked;
+use ledger_image_check::image::check_image;
 use ledger_registry_image::registries::store_registries;
 use ledger_row_image::row_image::store_rows;
 use registry_state::state::CredentialState;
 use registry_state::state::RegistryState;
 ghost use mathlib.Core.Path.{_≡_};
 ghost use lib.ListN.{length};
-ghost use Rattle.laws.specs.Number.{Bytes};
 ghost use Rattle.ledger_image.specs.Images.{imageInto, imageNumber};
 ghost use Rattle.ledger_image_check.specs.Checks.{viewChecked};
 ghost use Rattle.ledger_read.specs.ImageReads.{planOf, answerBy, countsOf, countsAfter, rowsAfter, RegistriesAfter};
@@ -21,7 +20,7 @@ pub struct ImageRead {
 
 // What is to be stored of the image: nothing where it is refused, and nothing in slices of other lengths than 16 and 256.
 fn planned(image: &[u8], registry_slots: usize, row_slots: usize) -> Checked
-    ensures { λ r. ⌜ (viewChecked r ≡ planOf «registry_slots» «row_slots» (now (image .entry))) × Bytes (now (image .entry)) ⌝ }
+    ensures { λ r. ⌜ viewChecked r ≡ planOf «registry_slots» «row_slots» (now (image .entry)) ⌝ }
 {
     let checked = check_image(image);
     if (registry_slots == 16) & (row_slots == 256) {

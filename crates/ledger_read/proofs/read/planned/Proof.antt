@@ -1,12 +1,9 @@
-use native.Mathlib.Omega.{arith}
 use mathlib.Core.Path.{_≡_, _∙_}
 use mathlib.Core.Bool.{Bool, cond, true, false, _&&_}
 use Prim.Native.Nat.{ℕ, _+_}
 use mathlib.Core.List.{List}
 use lib.Dec.{eqb}
 use borrow.Author.Needs.{needs}
-use denote.Ref.{now}
-use Rattle.laws.specs.Number.{Bytes}
 use Rattle.codec_cursor.specs.Readers.{starting}
 use Rattle.ledger_image.specs.Images.{readRegistries, imageOf, imageInto}
 use Rattle.ledger_image.specs.Images.ImageAnswer.{refused}
@@ -27,16 +24,10 @@ check-image-requires : tie.Need-check-image-requires
 check-image-requires c κs = search needs
 
 returns : tie.Need-returns
-returns c =
-    let b3 = c .before .before .before in
-    let bytes : Bytes (now (b3 .args .image)) = λ i. omega (arith, c .before .before .shared-slice-known .given i) in
-    (whole _ _ _ _ (c .before .check-image .ensures) (c .if1 .taken), bytes)
+returns c = whole _ _ _ _ (c .before .check-image .ensures) (c .if1 .taken)
 
 returns-2 : tie.Need-returns-2
-returns-2 c =
-    let b3 = c .before .before .before in
-    let bytes : Bytes (now (b3 .args .image)) = λ i. omega (arith, c .before .before .shared-slice-known .given i) in
-    (plan-is _ _ _ false (c .if1 .left), bytes)
+returns-2 c = plan-is _ _ _ false (c .if1 .left)
 
 pub planned-spec : {M : Type 1} → statement M
 planned-spec = tie.close (tie.spec check-image-requires returns returns-2)

@@ -43,22 +43,21 @@ use denote.Triple.Spec.{Meets, tripleOf}
 use denote.Triple.Table.{entered, cited}
 use denote.Triple.Walked.{says, onExit, Stays, stay-none, stay-slice, stay-none-slice, walkOf, goes-none, goes-slice, goes-none-slice, Walks, ends-at, walked, walk-meets}
 use denote.Exit.{yes}
-use Rattle.laws.specs.Number.{Bytes}
 use Rattle.registry_state.specs.declared.state.RegistryState.{RegistryState}
 use Rattle.registry_state.specs.declared.state.CredentialState.{CredentialState}
 use Rattle.ledger_image.specs.Images.{imageInto, imageNumber}
 use Rattle.ledger_row_image.specs.RowImages.{rowsFrom}
 use Rattle.ledger_row_image.proofs.Relend.{Kept, relends, backs}
 use Rattle.ledger_registry_image.specs.RegistrySections.{Stored}
-use Rattle.ledger_image_check.specs.declared.check.Checked.{Checked}
+use Rattle.ledger_image_check.specs.declared.image.Checked.{Checked}
 use Rattle.ledger_image_check.specs.Checks.{viewChecked}
 use Rattle.ledger_read.specs.declared.read.ImageRead.{ImageRead}
 use Rattle.ledger_read.specs.ImageReads.{planOf, answerBy, countsOf, countsAfter, rowsAfter, RegistriesAfter}
 use Rattle.ledger_read.proofs.ImageStored.{Done, done}
 use Rattle.registry_state.proofs.state.RegistryState as G
 use Rattle.registry_state.proofs.state.CredentialState as T
-use Rattle.ledger_image_check.proofs.check.Checked as K
-use Rattle.ledger_image_check.proofs.check.Checked.Laws as K′
+use Rattle.ledger_image_check.proofs.image.Checked as K
+use Rattle.ledger_image_check.proofs.image.Checked.Laws as K′
 use Rattle.ledger_read.proofs.read.ImageRead as A₀
 use Rattle.ledger_read.proofs.read.ImageRead.Laws as A′
 use Rattle.ledger_read.proofs.read.planned as plan
@@ -166,7 +165,7 @@ module _ {M : Type 1} (𝓤 : URA M) (H : Heap 𝓤) (A : Atoms 𝓤) (W : Given
 
   -- ---- what the calls tell, one after the other: the plan, the registries after it, the rows after it
   abbrev Plan : Checked → Type 0
-  Plan p = (viewChecked p ≡ planOf (length gs) (length ws) s) × Bytes s
+  Plan p = viewChecked p ≡ planOf (length gs) (length ws) s
 
   abbrev IsPlan : Checked → Type 0
   IsPlan p = Is K.the-row p (K′.lowered p ∷ [])
@@ -181,7 +180,7 @@ module _ {M : Type 1} (𝓤 : URA M) (H : Heap 𝓤) (A : Atoms 𝓤) (W : Given
   IsResult p = Is A₀.the-row (result p) (A′.lowered (result p) ∷ [])
 
   abbrev told : (p : Checked) → Plan p → (zs : List RegistryState) → Stored s (p .registries) gs zs → Done (imageInto (length gs) (length ws) s) (viewChecked p) gs zs ws (stored-rows p)
-  told p e zs h = done s (e .1) gs ws (viewChecked p) (e .0) zs h
+  told p e zs h = done s gs ws (viewChecked p) e zs h
 
   exits : (p : Checked) → Plan p → (zs : List RegistryState) → Stored s (p .registries) gs zs → (ys : List CredentialState) → ys ≡ stored-rows p → IsResult p → ent 𝓤 (⋆ 𝓤 H A (‵ (flft κ q) ∷ ‵ Own ∷ ‵ (ObsG zs) ∷ ‵ (BorG zs) ∷ ‵ (flft κ′ q′) ∷ ‵ (ObsW ys) ∷ ‵ (BorW ys) ∷ ‵ (flft κ″ q″) ∷ [])) (Post (A′.lowered (result p)))
   exits p e zs h ys k g =
