@@ -1,0 +1,3 @@
+pub mod ArrayFields
+pub mod ArrayLoans
+pub mod Spelled

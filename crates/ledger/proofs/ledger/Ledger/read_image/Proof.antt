@@ -1,0 +1,4 @@
+use Rattle.ledger.proofs.ledger.Ledger.read_image.Statement.{statement}
+
+pub read-image-spec : {M : Type 1} → statement M
+read-image-spec 𝓤 H 𝓜 𝓖 𝓡 = ?

@@ -1,0 +1,2 @@
+pub mod Stubs
+pub mod LedgerValues
