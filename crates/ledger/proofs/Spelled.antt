@@ -2,13 +2,14 @@
 --     spelled      that value
 --     tells        whatever the ledger's relation relates to a ledger is that
 --     Parts        the relations of its fields;  parts, whole      the ledger's relation gives them, and they give it
+--     spelled-read, whole-read     the same of a ledger beside a number
 -- Assumes nothing.
 use mathlib.Core.Path.{_≡_, refl, sym, ap, _∙_, subst}
 use Prim.Native.Nat.{ℕ, _<_, _^_}
 use mathlib.Core.List.{List, [], _∷_}
 use lib.Dec.{lit<}
 use lib.ListN.{length}
-use mir.Syntax.{w64}
+use mir.Syntax.{w8, w64}
 use mir.Val.{Val, vint, vstruct, ofList}
 use denote.Array.{Array}
 use denote.Laws.{Is, Tells}
@@ -21,8 +22,11 @@ use Rattle.registry_state.proofs.state.RegistryState.Laws as G′
 use Rattle.registry_state.proofs.state.CredentialState as T
 use Rattle.registry_state.proofs.state.CredentialState.Laws as T′
 use Rattle.ledger.specs.declared.ledger.Ledger.{Ledger}
+use Rattle.ledger.specs.declared.ledger.LedgerRead.{LedgerRead}
 use Rattle.ledger.proofs.ledger.Ledger as K
 use Rattle.ledger.proofs.ledger.Ledger.Laws as K′
+use Rattle.ledger.proofs.ledger.LedgerRead as N
+use Rattle.ledger.proofs.ledger.LedgerRead.Laws as N′
 use Rattle.ledger.proofs.ArrayFields as field
 
 -- the machine values of the arrays
@@ -38,13 +42,13 @@ with-arrays d u v = vstruct (ofList (u ∷ vint w64 (d .«registry_count») ∷ 
 abbrev pub spelled : Ledger → Val
 spelled d = with-arrays d (low-g (d .registries)) (low-w (d .rows))
 
-same : (d : Ledger) → LL.vals K.the-type K′.the-laws d ≡ spelled d ∷ []
+same : (d : Ledger) → LL.val K.the-type K′.the-laws d ≡ spelled d
 same d =
-    ap (λ (u : Val). with-arrays d u (field.within T.the-type T′.the-laws 256 (d .rows)) ∷ []) (field.spells G.the-type G′.the-laws 16 (d .registries))
-    ∙ ap (λ (v : Val). with-arrays d (low-g (d .registries)) v ∷ []) (field.spells T.the-type T′.the-laws 256 (d .rows))
+    ap (λ (u : Val). with-arrays d u (field.within T.the-type T′.the-laws 256 (d .rows))) (field.spells G.the-type G′.the-laws 16 (d .registries))
+    ∙ ap (λ (v : Val). with-arrays d (low-g (d .registries)) v) (field.spells T.the-type T′.the-laws 256 (d .rows))
 
 pub tells : Tells K.the-row (Is K.the-row) (λ d. spelled d ∷ [])
-tells d vs is = LL.tells K.the-type K′.the-laws d vs is ∙ same d
+tells d vs is = LL.tells K.the-type K′.the-laws d vs is ∙ ap (λ (u : Val). u ∷ []) (same d)
 
 abbrev pub IsG : List RegistryState → Type 0
 IsG gs = Is (Array G.the-row 16) gs (low-g gs ∷ [])
@@ -66,8 +70,19 @@ parts d vs is = let p = LL.owed K.the-type K′.the-laws d vs is in record {
   rows-counted = p .1 .1 .1 .0 .1;
 }
 
+within : (d : Ledger) → Parts d → Is K.the-row d (LL.vals K.the-type K′.the-laws d)
+within d p = LL.owes K.the-type K′.the-laws d (field.to-field G.the-type G′.the-laws 16 (d .registries) _ (p .registries), ((refl, p .registries-counted), (field.to-field T.the-type T′.the-laws 256 (d .rows) _ (p .rows), ((refl, p .rows-counted), tt))))
+
 pub whole : (d : Ledger) → Parts d → Is K.the-row d (spelled d ∷ [])
-whole d p = subst (λ (vs : List Val). Is K.the-row d vs) (same d) (LL.owes K.the-type K′.the-laws d (field.to-field G.the-type G′.the-laws 16 (d .registries) _ (p .registries), ((refl, p .registries-counted), (field.to-field T.the-type T′.the-laws 256 (d .rows) _ (p .rows), ((refl, p .rows-counted), tt)))))
+whole d p = subst (λ (u : Val). Is K.the-row d (u ∷ [])) (same d) (within d p)
+
+abbrev pub spelled-read : LedgerRead → Val
+spelled-read r = vstruct (ofList (vint w8 (r .number) ∷ spelled (r .ledger) ∷ []))
+
+pub whole-read : (r : LedgerRead) → r .number < 2 ^ 8 → Parts (r .ledger) → Is N.the-row r (spelled-read r ∷ [])
+whole-read r h p =
+    subst (λ (u : Val). Is N.the-row r (vstruct (ofList (vint w8 (r .number) ∷ u ∷ [])) ∷ [])) (same (r .ledger))
+    (LL.owes N.the-type N′.the-laws r ((refl, h), (within (r .ledger) p, tt)))
 
 -- an array has as many elements as its type says, and a slice has room for them
 pub length-g : (gs : List RegistryState) → IsG gs → length gs ≡ 16
