@@ -20,7 +20,7 @@ use Rattle.ledger_step.specs.Ledgers.{Ledger, LookedUp, lentLedger, sound, eqPa
 use Rattle.ledger_step.proofs.PlaceLaws.{find-place}
 use Rattle.ledger_step.proofs.Rules.{Keeps, parts}
 use Rattle.ledger_rows.specs.Rows as R
-use Rattle.ledger_lookup.specs.Lookups.{pairOf, findRow, lookedUpOf}
+use Rattle.ledger_lookup.specs.Lookups.{keyPair, lookedUpOf}
 
 pub below-both : (a b c : ℕ) → (ltb a b && ltb a c) ≡ ltb a (min b c)
 below-both a b c = go (ltb a b) (ltb a c) refl refl
@@ -38,15 +38,15 @@ zero-below n = go (ltb n 1) refl
     go true e = let h = ltb-true n 1 e in sym (eq-eqb n 0 (omega (arith, h)))
     go false e = let h = ltb-false n 1 e in sym (ne-eqb n 0 (λ z. absurd (omega (arith, h, z))))
 
-pub looked-up : (gs : List RegistryState) (m : ℕ) (ws : List CredentialState) (n : ℕ) (r c : Said) → lookedUpOf (sound (lentLedger gs m ws n)) (findRow ws n r c) n (R.rowAt ws (findRow ws n r c)) (pairOf r c) ≡ lookUp (lentLedger gs m ws n) (pairOf r c)
-unfolding lookedUpOf lookUp lentLedger findRow
+pub looked-up : (gs : List RegistryState) (m : ℕ) (ws : List CredentialState) (n : ℕ) (r c : Said) → lookedUpOf (sound (lentLedger gs m ws n)) (R.findAt ws n r c) n (R.rowAt ws (R.findAt ws n r c)) (keyPair r c) ≡ lookUp (lentLedger gs m ws n) (keyPair r c)
+unfolding lookedUpOf lookUp lentLedger R.findAt
 looked-up gs m ws n r c = go (sound (lentLedger gs m ws n)) refl
   where
     l : Ledger
     l = lentLedger gs m ws n
 
     k : Pair
-    k = pairOf r c
+    k = keyPair r c
 
     p : ℕ
     p = place keyOf eqPair noCredential k (take n ws)

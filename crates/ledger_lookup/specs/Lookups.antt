@@ -1,4 +1,4 @@
--- Finding in a lent ledger, and its look-up (docs/RULES.md, "Ledger", "Look-up").
+-- The look-up of a lent ledger (docs/RULES.md, "Look-up", "Reading rules").
 use Prim.Native.Nat.{ℕ}
 use mathlib.Core.Bool.{Bool, cond, _&&_}
 use mathlib.Core.Option.{none, some}
@@ -7,21 +7,15 @@ use lib.Dec.{ltb}
 use lib.ListN.{take}
 use Rattle.cesr.specs.declared.primitive.Said.{Said}
 use Rattle.codec.specs.Layout.{all}
-use Rattle.registry_state.specs.States.{noCredential}
 use Rattle.registry_state.specs.declared.state.RegistryState.{RegistryState}
 use Rattle.registry_state.specs.declared.state.CredentialState.{CredentialState}
-use Rattle.registry_laws.specs.Pairs.{Pair, keyOf}
-use Rattle.ledger_step.specs.Tables.{place}
-use Rattle.ledger_step.specs.Ledgers.{heldOf, idOf, eqPair, hasRegistry, LookedUp, standingOf, wellPair}
+use Rattle.registry_laws.specs.Pairs.{Pair}
+use Rattle.ledger_step.specs.Ledgers.{heldOf, idOf, hasRegistry, LookedUp, standingOf, wellPair}
 use Rattle.ledger_lookup.specs.declared.lookup.LookedUp as Code
 
--- the key of a row
-abbrev pub pairOf : Said → Said → Pair
-pairOf registry credential = record { registry = registry; credential = credential }
-
--- the place of a row among the first count
-unfoldable pub findRow : List CredentialState → ℕ → Said → Said → ℕ
-findRow ws count registry credential = place keyOf eqPair noCredential (pairOf registry credential) (take count ws)
+-- a key, from its two parts
+abbrev pub keyPair : Said → Said → Pair
+keyPair registry credential = record { registry = registry; credential = credential }
 
 -- the registry of every row is held
 unfoldable pub rowsHeld : List RegistryState → ℕ → List CredentialState → ℕ → Bool

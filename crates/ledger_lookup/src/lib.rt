@@ -1,3 +1,2 @@
-// The calls of a ledger (docs/RULES.md, "Ledger").
-pub mod stubs;
+// The look-up of a ledger that is lent, and the check of all its reading rules (docs/RULES.md, "Look-up", "Reading rules").
 pub mod lookup;

@@ -1,11 +1,11 @@
 // The standing of a credential, by its key (docs/RULES.md, "Look-up").
-use crate::stubs::find_at;
-use crate::stubs::rows_sound;
 use cesr::number::Sn;
 use cesr::primitive::Said;
 use ledger_registries::registries::find_registry;
 use ledger_registries::registries::registries_sound;
+use ledger_rows::rows::find_at;
 use ledger_rows::rows::read_row;
+use ledger_rows::rows::rows_sound;
 use registry_state::state::CredentialState;
 use registry_state::state::RegistryState;
 ghost use mathlib.Core.Path.{_≡_};
@@ -14,7 +14,7 @@ ghost use mathlib.Core.Bool.{_&&_};
 ghost use lib.Dec.{eqb, ltb};
 ghost use Rattle.cesr.specs.Numbers.{value};
 ghost use Rattle.ledger_step.specs.Ledgers.{lentLedger, sound, wellPair, lookUp};
-ghost use Rattle.ledger_lookup.specs.Lookups.{rowsHeld, viewLookedUp, pairOf, lookedUpOf};
+ghost use Rattle.ledger_lookup.specs.Lookups.{rowsHeld, viewLookedUp, keyPair, lookedUpOf};
 
 // Whether a search among the first `count` of `len` states ended before the last of them.
 fn is_found(at: usize, count: usize, len: usize) -> bool
@@ -64,8 +64,7 @@ pub fn sound<'a>(
     ensures { λ r. ⌜ r ≡ sound (lentLedger (now (registries .entry)) «registry_count» (now (rows .entry)) «row_count») ⌝ }
 {
     registries_sound(registries, registry_count)
-        & (rows_sound(rows, row_count)
-            & rows_held(registries, registry_count, rows, row_count))
+        & (rows_sound(rows, row_count) & rows_held(registries, registry_count, rows, row_count))
 }
 
 // What a look-up answers: 0 or the refusal 1, and 1 Issued, 2 Revoked, 3 Unknown, or 0 after a refusal.
@@ -76,7 +75,7 @@ pub struct LookedUp {
 
 // Whether there is a standing: the ledger keeps to the reading rules, and both parts of the key are saids.
 fn has_standing(ok: bool, registry: Said, credential: Said) -> bool
-    ensures { λ r. ⌜ r ≡ (ok && wellPair (pairOf registry credential)) ⌝ }
+    ensures { λ r. ⌜ r ≡ (ok && wellPair (keyPair registry credential)) ⌝ }
 {
     ok & (registry.0.is_said() & credential.0.is_said())
 }
@@ -104,7 +103,7 @@ fn standing(
     registry: Said,
     credential: Said,
 ) -> LookedUp
-    ensures { λ r. ⌜ viewLookedUp r ≡ lookedUpOf ok at «row_count» row (pairOf registry credential) ⌝ }
+    ensures { λ r. ⌜ viewLookedUp r ≡ lookedUpOf ok at «row_count» row (keyPair registry credential) ⌝ }
 {
     if has_standing(ok, registry, credential) {
         if is_below(at, row_count) {
@@ -139,7 +138,7 @@ pub fn look_up<'a>(
     registry: Said,
     credential: Said,
 ) -> LookedUp
-    ensures { λ r. ⌜ viewLookedUp r ≡ lookUp (lentLedger (now (registries .entry)) «registry_count» (now (rows .entry)) «row_count») (pairOf registry credential) ⌝ }
+    ensures { λ r. ⌜ viewLookedUp r ≡ lookUp (lentLedger (now (registries .entry)) «registry_count» (now (rows .entry)) «row_count») (keyPair registry credential) ⌝ }
 {
     let ok = sound(registries, registry_count, rows, row_count);
     let at = find_at(rows, row_count, registry, credential);

@@ -3,22 +3,20 @@
 --     sized                the bytes of the first i registries, behind the two of the count
 --     sized-none, sized-more, sized-all   none, one more, and all of them
 --     Facts, at-start, at-turn            what holds where t registries are left of n
-use Prim.Native.Nat.{ℕ, zero, suc, _+_, _-_, _*_, _^_, _<_, _≤_, min}
+use Prim.Native.Nat.{ℕ, suc, _+_, _-_, _*_, _^_, _<_, _≤_, min}
 use mathlib.Core.Path.{_≡_, refl, ap, sym, _∙_}
-use mathlib.Core.List.{List, [], _∷_, _++_, map}
+use mathlib.Core.List.{List, [], _∷_, _++_, map, map-append}
 use native.Mathlib.Omega.{arith}
 use lib.ListN.{length, getD, take, length-append, length-map, length-take}
 use lib.Seq.{take-suc}
 use Rattle.laws.specs.Number.{digits}
 use Rattle.laws.proofs.Number.{length-digits}
 use Rattle.laws.proofs.Views.{take-counted}
-use Rattle.events.specs.Members.{view}
 use Rattle.events.proofs.Members.{view-size as backers-size}
-use Rattle.events_tel.specs.Configs.{viewConfigs}
 use Rattle.events_tel.proofs.Configs.{view-size as configs-size}
 use Rattle.codec.specs.Layout.{joined}
 use Rattle.codec.proofs.CodesList.{joined-snoc}
-use Rattle.registry_state.specs.States.{Registry, viewRegistry, registryBytes, noSaid, noSn}
+use Rattle.registry_state.specs.States.{viewRegistry, registryBytes, noSaid, noSn}
 use Rattle.registry_state.specs.declared.state.RegistryState.{RegistryState}
 use Rattle.registry_state.proofs.StateLoops.{length-registry}
 use Rattle.cesr.specs.Primitives.{none}
@@ -34,11 +32,6 @@ blank =
     record
     { id = noSaid; issuer = none; sn = noSn; latest = noSaid; toad = record { 0 = 0 }; configs = record { codes = []; count = 0 }; backers = record { items = []; count = 0 } }
 
-module _ {A B : Type 0} (f : A → B) where
-  pub map-snoc : (l : List A) (x : A) → map f (l ++ (x ∷ [])) ≡ map f l ++ (f x ∷ [])
-  map-snoc [] x = refl
-  map-snoc (y ∷ l) x = ap (λ (m : List B). f y ∷ m) (map-snoc l x)
-
 module _ (ys : List RegistryState) where
   -- the bytes of the first i
   unfoldable pub bytesOf : ℕ → List ℕ
@@ -52,7 +45,7 @@ module _ (ys : List RegistryState) where
   unfolding bytesOf
   bytes-more i l =
       ap (λ (zs : List RegistryState). joined registryBytes (map viewRegistry zs)) (take-suc ys i blank l)
-      ∙ ap (joined registryBytes) (map-snoc viewRegistry (take i ys) (getD ys i blank))
+      ∙ ap (joined registryBytes) (map-append viewRegistry (take i ys) (getD ys i blank ∷ []))
       ∙ joined-snoc registryBytes (map viewRegistry (take i ys)) (viewRegistry (getD ys i blank))
 
   unfoldable pub sized : ℕ → ℕ

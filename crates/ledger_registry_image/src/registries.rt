@@ -1,5 +1,7 @@
 // Registries behind a slice, and the bytes that an image has of them: how many, how they are written, how they are read (docs/RULES.md, "Image").
+use codec_cursor::cursor::Cursor;
 use ledger_image::image::write_count;
+use registry_state::state::RegistryRead;
 use registry_state::state::RegistryState;
 ghost use mathlib.Core.Path.{_≡_};
 ghost use mathlib.Core.Bool.{cond};
@@ -9,8 +11,9 @@ ghost use lib.ListN.{length};
 ghost use lib.Seq.{sets};
 ghost use Rattle.laws.specs.Number.{digits};
 ghost use Rattle.laws.specs.Room.{put};
-ghost use Rattle.registry_state.specs.States.{viewRegistry, registryBytes};
-ghost use Rattle.ledger_registry_image.specs.RegistrySections.{sectionOf};
+ghost use Rattle.registry_state.specs.States.{viewRegistry, registryBytes, readRegistry};
+ghost use Rattle.ledger_step.specs.Ledgers.{heldOf};
+ghost use Rattle.ledger_registry_image.specs.RegistrySections.{sectionOf, heldRead, Stored};
 
 fn lesser(a: usize, b: usize) -> usize
     ensures { λ r. ⌜ r ≡ min a b ⌝ }
@@ -81,6 +84,47 @@ pub fn write_registries(registries: &[RegistryState], count: usize, out: &mut [u
     let mut i = 0;
     while i < n {
         at = write_next(out, at, registries[i]);
+        i += 1;
+    }
+}
+
+// The registry at a cursor. Its counts are those of its lists, so that it is well formed where its letters are.
+fn read_next(c: Cursor, image: &[u8]) -> RegistryRead
+    ensures { λ r. ⌜ (heldOf (r .value) ≡ heldRead (readRegistry (now (image .entry)) c .value)) × (r .next ≡ readRegistry (now (image .entry)) c .next) ⌝ }
+{
+    let r = RegistryState::read(c, image);
+    let next = r.next;
+    let g = r.value;
+    let id = g.id;
+    let issuer = g.issuer;
+    let sn = g.sn;
+    let latest = g.latest;
+    let toad = g.toad;
+    let configs = g.configs.trimmed();
+    let backers = g.backers.trimmed();
+    let value = RegistryState {
+        id,
+        issuer,
+        sn,
+        latest,
+        toad,
+        configs,
+        backers,
+    };
+    RegistryRead { value, next }
+}
+
+// The first `count` registries are read from the image, one behind the other from byte 2 on, and stored from the first place on, as many as the slice has places for. The other places stay.
+pub fn store_registries(image: &[u8], count: usize, registries: &mut [RegistryState])
+    ensures { λ r. ⌜ Stored (now (image .entry)) count (now (registries .entry)) (now (registries .exit)) ⌝ }
+{
+    let n = lesser(count, registries.len());
+    let mut c = Cursor { ok: true, at: 2 };
+    let mut i = 0;
+    while i < n {
+        let r = read_next(c, image);
+        registries[i] = r.value;
+        c = r.next;
         i += 1;
     }
 }

@@ -1,2 +1,2 @@
-pub mod Relend
+pub mod RowSections
 pub mod RowTurns

@@ -1,44 +1,6 @@
--- Facts on numbers and truth values that the walks over the rows meet. A row has 136 bytes in memory.
-use Prim.Native.Nat.{ℕ, suc, _+_, _-_, _*_, _<_, _≤_, _^_}
-use mathlib.Core.Path.{_≡_, refl}
-use mathlib.Core.Bool.{Bool, true, false, not}
+-- A row in memory: its 136 bytes.
+use Prim.Native.Nat.{ℕ, _*_, _<_, _^_}
 use native.Mathlib.Omega.{arith}
-use borrow.Author.Tests.{le-ltb}
-use lib.Dec.{T as Holds, ltb}
 
 pub offset-fits : {i n : ℕ} → n * 136 < 2 ^ 63 → i < n → i * 136 < 2 ^ 64
 offset-fits room l = omega arith
-
--- where t rows are left of n, the row of this turn is n - suc t
-module _ {n m t : ℕ} (l : n ≤ m) (f : suc t ≤ n) (g : n < 2 ^ 64) where
-  pub below : n - suc t < n
-  below = omega arith
-
-  pub there : n - suc t < m
-  there = omega arith
-
-  pub here-fits : n - suc t < 2 ^ 64
-  here-fits = omega arith
-
-  pub next-fits : n - suc t + 1 < 2 ^ 64
-  next-fits = omega arith
-
-  pub next-is : n - suc t + 1 ≡ n - t
-  next-is = omega arith
-
-pub none-passed : (n : ℕ) → n - n ≡ 0
-none-passed n = omega arith
-
-pub all-passed : (n : ℕ) → n - 0 ≡ n
-all-passed n = omega arith
-
-pub none-left : (n : ℕ) → ltb n n ≡ false
-none-left n = le-ltb n n (omega arith)
-
-pub holds : (t : Bool) → Holds t → t ≡ true
-holds true _ = refl
-holds false a = absurd a
-
-pub fails : (t : Bool) → Holds (not t) → t ≡ false
-fails true a = absurd a
-fails false _ = refl

@@ -5,9 +5,11 @@ use registry_state::state::CredentialState;
 ghost use mathlib.Core.Path.{_≡_};
 ghost use mathlib.Core.Bool.{_&&_};
 ghost use Prim.Native.Nat.{min};
-ghost use lib.ListN.{set};
+ghost use lib.ListN.{length, take, set};
 ghost use lib.Dec.{eqb, leb};
-ghost use Rattle.ledger_rows.specs.Rows.{rowAt, hasKey, findAt, soundRow, rowsSound};
+ghost use Rattle.registry_state.specs.States.{wellCredential};
+ghost use Rattle.ledger_step.specs.Ledgers.{zeroOrOne, holds, rowRules};
+ghost use Rattle.ledger_rows.specs.Rows.{rowAt, hasKey, findAt};
 
 // The row at a place; past the end there is no credential.
 pub fn read_row(rows: &[CredentialState], at: usize) -> CredentialState
@@ -72,7 +74,7 @@ fn right_size(len: usize, count: usize) -> bool
 
 // Whether the row is well formed and has the sn 0 or 1.
 fn row_sound(w: CredentialState) -> bool
-    ensures { λ r. ⌜ r ≡ soundRow w ⌝ }
+    ensures { λ r. ⌜ r ≡ (wellCredential w && zeroOrOne w) ⌝ }
 {
     let two = Sn { hi: 0, lo: 2 };
     w.well_formed() & w.sn.less(two)
@@ -80,14 +82,14 @@ fn row_sound(w: CredentialState) -> bool
 
 // Row `i` is sound by itself, and its key was first found at no place before it.
 fn passes(w: CredentialState, found: usize, i: usize) -> bool
-    ensures { λ r. ⌜ r ≡ (soundRow w && leb i found) ⌝ }
+    ensures { λ r. ⌜ r ≡ ((wellCredential w && zeroOrOne w) && leb i found) ⌝ }
 {
     row_sound(w) & (i <= found)
 }
 
 // Whether the rows keep to all the reading rules that need no registry.
 pub fn rows_sound(rows: &[CredentialState], count: usize) -> bool
-    ensures { λ r. ⌜ r ≡ rowsSound (now (rows .entry)) count ⌝ }
+    ensures { λ r. ⌜ r ≡ holds (rowRules (length (now (rows .entry))) count (take count (now (rows .entry)))) ⌝ }
 {
     if !right_size(rows.len(), count) {
         return false;

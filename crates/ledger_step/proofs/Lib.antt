@@ -8,6 +8,7 @@ pub mod PlaceSteps
 pub mod Places
 pub mod ReadLetters
 pub mod ReadsFixed
+pub mod Relend
 pub mod Rules
 pub mod Runs
 pub mod SoundParts

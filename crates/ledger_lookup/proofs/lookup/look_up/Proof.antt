@@ -43,8 +43,8 @@ use Rattle.registry_state.specs.States.{noCredential}
 use Rattle.registry_state.specs.declared.state.RegistryState.{RegistryState}
 use Rattle.registry_state.specs.declared.state.CredentialState.{CredentialState}
 use Rattle.ledger_step.specs.Ledgers.{lentLedger, sound, lookUp}
-use Rattle.ledger_rows.specs.Rows.{rowAt}
-use Rattle.ledger_lookup.specs.Lookups.{pairOf, findRow, viewLookedUp, lookedUpOf}
+use Rattle.ledger_rows.specs.Rows.{rowAt, findAt}
+use Rattle.ledger_lookup.specs.Lookups.{keyPair, viewLookedUp, lookedUpOf}
 use Rattle.ledger_lookup.specs.declared.lookup.LookedUp.{LookedUp as Answered}
 use Rattle.ledger_lookup.proofs.Found.{looked-up}
 use Rattle.cesr.proofs.primitive.Said as S
@@ -58,10 +58,10 @@ use Rattle.ledger_lookup.proofs.lookup.sound as check
 use Rattle.ledger_lookup.proofs.lookup.sound.Symbol as check-def
 use Rattle.ledger_lookup.proofs.lookup.sound.Symbol.{name as #check}
 use Rattle.ledger_lookup.proofs.lookup.sound.Met as check-thm
-use Rattle.ledger_lookup.proofs.stubs.find_at as find
-use Rattle.ledger_lookup.proofs.stubs.find_at.Symbol as find-def
-use Rattle.ledger_lookup.proofs.stubs.find_at.Symbol.{name as #find}
-use Rattle.ledger_lookup.proofs.stubs.find_at.Met as find-thm
+use Rattle.ledger_rows.proofs.rows.find_at as find
+use Rattle.ledger_rows.proofs.rows.find_at.Symbol as find-def
+use Rattle.ledger_rows.proofs.rows.find_at.Symbol.{name as #find}
+use Rattle.ledger_rows.proofs.rows.find_at.Met as find-thm
 use Rattle.ledger_rows.proofs.rows.read_row as read
 use Rattle.ledger_rows.proofs.rows.read_row.Symbol as read-def
 use Rattle.ledger_rows.proofs.rows.read_row.Symbol.{name as #read}
@@ -133,7 +133,7 @@ module _ {M : Type 1} (𝓤 : URA M) (H : Heap 𝓤) (A : Atoms 𝓤) (W : Given
   ok = sound (lentLedger gs m ws n)
 
   abbrev i : ℕ
-  i = findRow ws n reg cred
+  i = findAt ws n reg cred
 
   abbrev row : CredentialState
   row = rowAt ws i
@@ -190,10 +190,10 @@ module _ {M : Type 1} (𝓤 : URA M) (H : Heap 𝓤) (A : Atoms 𝓤) (W : Given
   goes-answer : (is-find : i < 2 ^ 64) → (is-read : Is T.the-row row (T′.lowered row ∷ [])) → ent 𝓤 (emp 𝓤) (Standing 𝓤 H A mem run .pre to-answer)
   goes-answer is-find is-read = qed W [] ∵ nothing ! $ owned ! S.the-row (Is S.the-row) ((LL.makes S.the-type S′.the-plain) 𝓤 H A) cred _ is-cred $ fjoin ! $ owned ! S.the-row (Is S.the-row) ((LL.makes S.the-type S′.the-plain) 𝓤 H A) reg _ is-reg $ fjoin ! $ owned ! T.the-row (Is T.the-row) ((LL.makes T.the-type T′.the-plain) 𝓤 H A) row _ is-read $ fjoin ! $ owned ! usize (Is usize) (uint-makes 𝓤 H A W w64) n _ (refl, is-n) $ fjoin ! $ owned ! usize (Is usize) (uint-makes 𝓤 H A W w64) i _ (refl, is-find) $ fjoin ! $ owned ! Boolean (Is Boolean) (bool-makes 𝓤 H A W) ok _ refl $ fjoin ! $ nothing ! $ join ! $ nothing ! $ move ! (1 ∷ 0 ∷ []) $ frame ! $ done !
 
-  said-answer : (r : Answered) → ent 𝓤 (ensured 𝓤 H A answer.ended (answer.clauses 𝓤 H A mem run) tt arg-answer tt r) (fact 𝓤 (viewLookedUp r ≡ lookedUpOf ok i n row (pairOf reg cred)))
-  said-answer r = exE 𝓤 _ (λ lasting. snd∗ 𝓤 (sem 𝓤 H A (lasts answer.ended tt arg-answer lasting)) (fact 𝓤 (viewLookedUp r ≡ lookedUpOf ok i n row (pairOf reg cred))))
+  said-answer : (r : Answered) → ent 𝓤 (ensured 𝓤 H A answer.ended (answer.clauses 𝓤 H A mem run) tt arg-answer tt r) (fact 𝓤 (viewLookedUp r ≡ lookedUpOf ok i n row (keyPair reg cred)))
+  said-answer r = exE 𝓤 _ (λ lasting. snd∗ 𝓤 (sem 𝓤 H A (lasts answer.ended tt arg-answer lasting)) (fact 𝓤 (viewLookedUp r ≡ lookedUpOf ok i n row (keyPair reg cred))))
 
-  exits : (r : Answered) → viewLookedUp r ≡ lookedUpOf ok i n row (pairOf reg cred) → (Is P.the-row r (P′.lowered r ∷ [])) → ent 𝓤 (⋆ 𝓤 H A (‵ (flft κ q) ∷ ‵ Own-gs ∷ ‵ Own-ws ∷ [])) (Post (P′.lowered r))
+  exits : (r : Answered) → viewLookedUp r ≡ lookedUpOf ok i n row (keyPair reg cred) → (Is P.the-row r (P′.lowered r ∷ [])) → ent 𝓤 (⋆ 𝓤 H A (‵ (flft κ q) ∷ ‵ Own-gs ∷ ‵ Own-ws ∷ [])) (Post (P′.lowered r))
   exits r e g =
       qed W (‵ (flft κ q) ∷ ‵ Own-gs ∷ ‵ Own-ws ∷ []) ∵
       suffices ! _ (ends-at 𝓤 H A me.ended stayed (me.clauses 𝓤 H A mem run) W (((κ, tt), (q, tt), tt, x, at), tt) (P′.lowered r) r (tt, (tt, (tt, (tt, (tt, (tt, tt)))))) (tt, (tt, (tt, (tt, (tt, (tt, tt))))))) $ says ! (e ∙ looked-up gs m ws n reg cred) $
@@ -209,7 +209,7 @@ module _ {M : Type 1} (𝓤 : URA M) (H : Heap 𝓤) (A : Atoms 𝓤) (W : Given
           use0 W (raw (Standing 𝓤 H A mem run .pre to-answer)) (goes-answer is-find is-read) $
           calls-at ! fm (Standing 𝓤 H A mem run) known-answer to-answer (and-then ! (load ! (from ! (stop !)) (look ! 8 refl)) (and-then ! (load ! (from ! (stop !)) (look ! 6 refl)) (and-then ! (load ! (from ! (stop !)) (look ! 14 refl)) (and-then ! (load ! (from ! (stop !)) (look ! 4 refl)) (and-then ! (load ! (from ! (stop !)) (look ! 12 refl)) (and-then ! (load ! (from ! (stop !)) (look ! 10 refl)) (no-more !))))))) (λ u.
           use1 W (later (some (λ (r : Answered). (‵ ftrue ⊛ ‵ (P.the-row .own r (u ∷ []))) ⊛ raw (ensured 𝓤 H A answer.ended (answer.clauses 𝓤 H A mem run) tt arg-answer tt r)))) (id⊢ 𝓤 _) $ await ! tt $ pick ! (λ r.
-          split ! $ move ! (1 ∷ []) $ use1 W (raw (fact 𝓤 (viewLookedUp r ≡ lookedUpOf ok i n row (pairOf reg cred)))) (said-answer r) $ heard ! (viewLookedUp r ≡ lookedUpOf ok i n row (pairOf reg cred)) (λ e. split ! $ drop ! $
+          split ! $ move ! (1 ∷ []) $ use1 W (raw (fact 𝓤 (viewLookedUp r ≡ lookedUpOf ok i n row (keyPair reg cred)))) (said-answer r) $ heard ! (viewLookedUp r ≡ lookedUpOf ok i n row (keyPair reg cred)) (λ e. split ! $ drop ! $
           peeks ! P.the-row (Is P.the-row) (shows 𝓤 H A P.the-row) r (u ∷ []) (λ is. drop ! $
           land ! (from ! (stop !)) (init ! 21 refl (LL.lawful P.the-type P′.the-laws 𝓤 H A W .typed r _ is .0)) $
           rewrite ! 21 (λ (z : Val). ‵ (fat fullShare P′.mir l₀ 0 (z))) (ap only (LL.tells P.the-type P′.the-laws r _ is)) refl $ returns ! (look ! 21 refl) $ forget ! 3 refl $ forget ! 5 refl $ forget ! 7 refl $ forget ! 9 refl $ forget ! 11 refl $ forget ! 13 refl $ forget ! 15 refl $ forget ! 17 refl $ forget ! 19 refl $ forget ! 21 refl $ move ! (21 ∷ 22 ∷ []) $ free1 ! $ move ! (19 ∷ 20 ∷ []) $ free1 ! $ move ! (17 ∷ 18 ∷ []) $ free1 ! $ move ! (15 ∷ 16 ∷ []) $ free1 ! $ move ! (13 ∷ 14 ∷ []) $ free1 ! $ move ! (11 ∷ 12 ∷ []) $ free1 ! $ move ! (9 ∷ 10 ∷ []) $ free1 ! $ move ! (7 ∷ 8 ∷ []) $ free1 ! $ move ! (5 ∷ 6 ∷ []) $ free1 ! $ move ! (3 ∷ 4 ∷ []) $ free1 ! $ free0 ! $ by ! (exits r e (subst (λ (vs : List Val). Is P.the-row r vs) (LL.tells P.the-type P′.the-laws r _ is) is))))))
@@ -275,6 +275,6 @@ look-up-spec 𝓤 H 𝓜 𝓖 𝓡 =
     (tables 𝓤 H 𝓜 𝓡 code.env .C) (tables 𝓤 H 𝓜 𝓡 code.env .Λ) #me code.function (code.unfolded 𝓤 H 𝓜 𝓡)
     (me-meets 𝓤 H (𝓖 .A) (givenOf 𝓤 H 𝓜 𝓖) (𝓜 .mem) (𝓡 .run) (tablesOf 𝓤 H 𝓜 (tables 𝓤 H 𝓜 𝓡 code.env))
     (cited 𝓤 H (Sound 𝓤 H (𝓖 .A) (𝓜 .mem) (𝓡 .run)) 𝓜 𝓡 code.env #check check-def.routine code.calls-ledger-lookup·lookup·sound (check-thm.met 𝓤 H 𝓜 𝓖 𝓡))
-    (cited 𝓤 H (FindAt 𝓤 H (𝓖 .A) (𝓜 .mem) (𝓡 .run)) 𝓜 𝓡 code.env #find find-def.routine code.calls-ledger-lookup·stubs·find-at (find-thm.met 𝓤 H 𝓜 𝓖 𝓡))
+    (cited 𝓤 H (FindAt 𝓤 H (𝓖 .A) (𝓜 .mem) (𝓡 .run)) 𝓜 𝓡 code.env #find find-def.routine code.calls-ledger-rows·rows·find-at (find-thm.met 𝓤 H 𝓜 𝓖 𝓡))
     (cited 𝓤 H (ReadRow 𝓤 H (𝓖 .A) (𝓜 .mem) (𝓡 .run)) 𝓜 𝓡 code.env #read read-def.routine code.calls-ledger-rows·rows·read-row (read-thm.met 𝓤 H 𝓜 𝓖 𝓡))
     (cited 𝓤 H (Standing 𝓤 H (𝓖 .A) (𝓜 .mem) (𝓡 .run)) 𝓜 𝓡 code.env #answer answer-def.routine code.calls-ledger-lookup·lookup·standing (answer-thm.met 𝓤 H 𝓜 𝓖 𝓡)))

@@ -49,10 +49,10 @@ use Rattle.ledger_registries.proofs.registries.registries_sound as first
 use Rattle.ledger_registries.proofs.registries.registries_sound.Symbol as first-def
 use Rattle.ledger_registries.proofs.registries.registries_sound.Symbol.{name as #first}
 use Rattle.ledger_registries.proofs.registries.registries_sound.Met as first-thm
-use Rattle.ledger_lookup.proofs.stubs.rows_sound as second
-use Rattle.ledger_lookup.proofs.stubs.rows_sound.Symbol as second-def
-use Rattle.ledger_lookup.proofs.stubs.rows_sound.Symbol.{name as #second}
-use Rattle.ledger_lookup.proofs.stubs.rows_sound.Met as second-thm
+use Rattle.ledger_rows.proofs.rows.rows_sound as second
+use Rattle.ledger_rows.proofs.rows.rows_sound.Symbol as second-def
+use Rattle.ledger_rows.proofs.rows.rows_sound.Symbol.{name as #second}
+use Rattle.ledger_rows.proofs.rows.rows_sound.Met as second-thm
 use Rattle.ledger_lookup.proofs.lookup.rows_held as third
 use Rattle.ledger_lookup.proofs.lookup.rows_held.Symbol as third-def
 use Rattle.ledger_lookup.proofs.lookup.rows_held.Symbol.{name as #third}
@@ -250,5 +250,5 @@ sound-spec 𝓤 H 𝓜 𝓖 𝓡 =
     (tables 𝓤 H 𝓜 𝓡 code.env .C) (tables 𝓤 H 𝓜 𝓡 code.env .Λ) #me code.function (code.unfolded 𝓤 H 𝓜 𝓡)
     (me-meets 𝓤 H (𝓖 .A) (givenOf 𝓤 H 𝓜 𝓖) (𝓜 .mem) (𝓡 .run) (tablesOf 𝓤 H 𝓜 (tables 𝓤 H 𝓜 𝓡 code.env))
     (cited 𝓤 H (RegistriesSound 𝓤 H (𝓖 .A) (𝓜 .mem) (𝓡 .run)) 𝓜 𝓡 code.env #first first-def.routine code.calls-ledger-registries·registries·registries-sound (first-thm.met 𝓤 H 𝓜 𝓖 𝓡))
-    (cited 𝓤 H (RowsSound 𝓤 H (𝓖 .A) (𝓜 .mem) (𝓡 .run)) 𝓜 𝓡 code.env #second second-def.routine code.calls-ledger-lookup·stubs·rows-sound (second-thm.met 𝓤 H 𝓜 𝓖 𝓡))
+    (cited 𝓤 H (RowsSound 𝓤 H (𝓖 .A) (𝓜 .mem) (𝓡 .run)) 𝓜 𝓡 code.env #second second-def.routine code.calls-ledger-rows·rows·rows-sound (second-thm.met 𝓤 H 𝓜 𝓖 𝓡))
     (cited 𝓤 H (RowsHeld 𝓤 H (𝓖 .A) (𝓜 .mem) (𝓡 .run)) 𝓜 𝓡 code.env #third third-def.routine code.calls-ledger-lookup·lookup·rows-held (third-thm.met 𝓤 H 𝓜 𝓖 𝓡)))

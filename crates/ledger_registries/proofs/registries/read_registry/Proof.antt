@@ -102,7 +102,7 @@ module _ {M : Type 1} (𝓤 : URA M) (H : Heap 𝓤) (A : Atoms 𝓤) (W : Given
       qed W (‵ (flft κ q) ∷ ‵ Own ∷ []) ∵
       suffices ! _ (ends-at 𝓤 H A me.ended stayed (me.clauses 𝓤 H A mem run) W (((κ, tt), (q, tt), tt, x, at), tt) (low c) c (tt, (tt, tt)) (tt, (tt, tt))) $
       -- the two facts, the last first
-      suffices ! _ (assoc∗ 𝓤 (onExit 𝓤 H A me.ended stayed (κ, tt) (q, tt) at (low c) c x (tt, (tt, tt))) (fact 𝓤 (heldOf c ≡ getD (map heldOf ys) i noHeld)) (fact 𝓤 (i < length ys → c ≡ elem))) $ says ! (e .1) $ says ! (e .0) $
+      suffices ! _ (assoc∗ 𝓤 (onExit 𝓤 H A me.ended stayed (κ, tt) (q, tt) at (low c) c x (tt, (tt, tt))) (fact 𝓤 _) (fact 𝓤 _)) $ says ! (e .1) $ says ! (e .0) $
       nothing ! $ move ! (1 ∷ 0 ∷ []) $ join ! $
       nothing ! $ owned ! usize (Is usize) (uint-makes 𝓤 H A W w64) i _ (refl, i-fits) $ fjoin ! $ move ! (2 ∷ 0 ∷ []) $ fjoin ! $ move ! (1 ∷ 0 ∷ []) $ frame ! $ frame ! $
       owned ! T.the-row (Is T.the-row) ((LL.makes T.the-type T′.the-plain) 𝓤 H A) c _ g $ done !

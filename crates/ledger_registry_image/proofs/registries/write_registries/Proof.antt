@@ -2,12 +2,12 @@
 -- The invariant, where t registries are left: the buffer is `wrote (n - t)` (`../../SectionWrites.antt`), `at` is `sized (n - t)`, and t ≤ n. The variant is t. No borrow is open between two turns.
 -- Assumes nothing.
 use mathlib.Core.Path.{_≡_, refl, sym, ap, _∙_, subst}
-use Prim.Native.Nat.{ℕ, zero, suc, _+_, _-_, _<_, _≤_, _^_, min}
+use Prim.Native.Nat.{ℕ, zero, suc, _+_, _-_, _<_, _≤_, _^_}
 use native.Mathlib.Nat.{lt-suc-self}
 use native.Mathlib.Omega.{arith}
-use mathlib.Core.Bool.{Bool, cond}
+use mathlib.Core.Bool.{Bool}
 use mathlib.Core.List.{List, [], _∷_}
-use lib.Dec.{leb, lit<}
+use lib.Dec.{lit<}
 use lib.ListN.{length, getD}
 use lib.Seq.{sets}
 use lib.WfN.{Nat·lt-wfRel}
@@ -51,13 +51,12 @@ use denote.Triple.Spec.{Meets, tripleOf}
 use denote.Triple.Table.{entered, cited}
 use denote.Triple.Walked.{says, Stays, stay-none, stay-slice, stay-none-slice, walkOf, goes-none, goes-slice, goes-none-slice, Walks, ends-at, walked, walk-meets}
 use denote.Exit.{yes}
-use Rattle.laws.specs.Number.{digits}
 use Rattle.laws.specs.Room.{put}
 use Rattle.registry_state.specs.States.{viewRegistry, registryBytes}
 use Rattle.registry_state.specs.declared.state.RegistryState.{RegistryState}
 use Rattle.ledger_registry_image.specs.RegistrySections.{sectionOf}
 use Rattle.ledger_registry_image.proofs.Relend.{Kept, relends, backs}
-use Rattle.ledger_registry_image.proofs.SectionSizes.{blank, sized, sized-none, sized-more, used}
+use Rattle.ledger_registry_image.proofs.SectionSizes.{blank, sized, sized-none, sized-more}
 use Rattle.ledger_registry_image.proofs.SectionWrites.{followers, few-followers, headed, wrote, wrote-none, wrote-long, wrote-more, next-room, wrote-all}
 use Rattle.ledger_registry_image.proofs.Places.{offset-fits, below, there, next-fits, next-is, suc-is, less, none-passed, all-passed, none-left}
 use Rattle.registry_state.proofs.state.RegistryState as T

@@ -1,4 +1,4 @@
--- `row_image::store_rows` meets its contract: a walk of its MIR, by hand, over two slices at two lifetimes, with a loop and two calls in it. In each turn `CredentialState::read` is called on the bytes, whose `&` is Copy, and `store_row` on the rows: their `&mut` is lent again for a lifetime of the call, and comes back at the list that the call leaves (`../../Relend.antt`).
+-- `row_image::store_rows` meets its contract: a walk of its MIR, by hand, over two slices at two lifetimes, with a loop and two calls in it. In each turn `CredentialState::read` is called on the bytes, whose `&` is Copy, and `store_row` on the rows: their `&mut` is lent again for a lifetime of the call, and comes back at the list that the call leaves (ledger_step's `Relend`).
 -- The invariant, where t rows are left: the rows are `read (n - t)` and the cursor is `cursor (n - t)` (`../../RowTurns.antt`), t ≤ n, and the cursor's place is a word. The variant is t. No borrow is open between two turns.
 -- Assumes nothing.
 use mathlib.Core.Path.{_≡_, refl, sym, ap, _∙_, subst}
@@ -63,12 +63,12 @@ use Rattle.registry_state.proofs.state.CredentialState.read as rd
 use Rattle.registry_state.proofs.state.CredentialState.read.Symbol as rd-def
 use Rattle.registry_state.proofs.state.CredentialState.read.Symbol.{name as #read}
 use Rattle.registry_state.proofs.state.CredentialState.read.Met as rd-thm
-use Rattle.ledger_rows.proofs.Places.{below, here-fits, next-fits, next-is, none-passed, all-passed, none-left}
+use Rattle.ledger_step.proofs.Relend.{Kept, relends, backs}
+use Rattle.ledger_step.proofs.Turns.{below, here-fits, next-fits, next-is, none-passed, all-passed, none-left}
 use Rattle.ledger_rows.proofs.rows.store_row as st
 use Rattle.ledger_rows.proofs.rows.store_row.Symbol as st-def
 use Rattle.ledger_rows.proofs.rows.store_row.Symbol.{name as #store}
 use Rattle.ledger_rows.proofs.rows.store_row.Met as st-thm
-use Rattle.ledger_row_image.proofs.Relend.{Kept, relends, backs}
 use Rattle.ledger_row_image.proofs.RowTurns.{all-in, less, suc-is, read, read-long, read-none, read-more, cursor, cursor-none, cursor-more}
 use Rattle.ledger_row_image.proofs.row_image.store_rows.Key.{name as #me}
 use Rattle.ledger_row_image.proofs.row_image.store_rows as me

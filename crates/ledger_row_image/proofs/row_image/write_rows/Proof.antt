@@ -1,4 +1,4 @@
--- `row_image::write_rows` meets its contract: a walk of its MIR, by hand, over two slices at two lifetimes, with a branch, a loop and three calls in it. In each turn the shared borrow is opened, a row is copied out and it is shut; the `&mut [u8]` is lent again for a lifetime of each call that writes, and comes back at the list that the call leaves (`../../Relend.antt`).
+-- `row_image::write_rows` meets its contract: a walk of its MIR, by hand, over two slices at two lifetimes, with a branch, a loop and three calls in it. In each turn the shared borrow is opened, a row is copied out and it is shut; the `&mut [u8]` is lent again for a lifetime of each call that writes, and comes back at the list that the call leaves (ledger_step's `Relend`).
 -- The invariant, where t rows are left: the buffer is `wrote (n - t)` (`../../RowTurns.antt`), `at` is 2 + 115 * (n - t), and t ≤ n. The variant is t. No borrow is open between two turns.
 -- Assumes nothing.
 use mathlib.Core.Path.{_≡_, refl, sym, ap, _∙_, subst}
@@ -63,9 +63,10 @@ use Rattle.ledger_image.proofs.image.write_count as co
 use Rattle.ledger_image.proofs.image.write_count.Symbol as co-def
 use Rattle.ledger_image.proofs.image.write_count.Symbol.{name as #count}
 use Rattle.ledger_image.proofs.image.write_count.Met as co-thm
-use Rattle.ledger_rows.proofs.Places.{offset-fits, below, there, next-fits, next-is, none-passed, all-passed, none-left, fails}
+use Rattle.ledger_step.proofs.Relend.{Kept, relends, backs}
+use Rattle.ledger_step.proofs.Turns.{below, there, next-fits, next-is, none-passed, all-passed, none-left, fails}
+use Rattle.ledger_rows.proofs.Places.{offset-fits}
 use Rattle.ledger_row_image.specs.RowImages.{writtenRows}
-use Rattle.ledger_row_image.proofs.Relend.{Kept, relends, backs}
 use Rattle.ledger_row_image.proofs.RowTurns.{all-in, less, suc-is, at-fits, room-for, next-at-fits, next-at, first-at, count-fits, wrote, wrote-long, wrote-none, wrote-more, fits, enough-rows, enough-room, wrote-all, not-written}
 use Rattle.ledger_row_image.proofs.row_image.section_fits as fi
 use Rattle.ledger_row_image.proofs.row_image.section_fits.Symbol as fi-def

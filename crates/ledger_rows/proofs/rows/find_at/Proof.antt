@@ -51,9 +51,10 @@ use denote.Exit.{yes}
 use Rattle.cesr.specs.declared.primitive.Said.{Said}
 use Rattle.registry_state.specs.States.{noCredential}
 use Rattle.registry_state.specs.declared.state.CredentialState.{CredentialState}
+use Rattle.ledger_step.proofs.Turns.{below, there, here-fits, next-fits, next-is, none-passed, all-passed, none-left, holds-true, fails}
 use Rattle.ledger_rows.specs.Rows.{rowAt, hasKey, findAt}
 use Rattle.ledger_rows.proofs.Find.{Facts, at-start, at-end, at-hit, at-miss}
-use Rattle.ledger_rows.proofs.Places.{offset-fits, below, there, here-fits, next-fits, next-is, none-passed, all-passed, none-left, holds, fails}
+use Rattle.ledger_rows.proofs.Places.{offset-fits}
 use Rattle.cesr.proofs.primitive.Said as S
 use Rattle.cesr.proofs.primitive.Said.Laws as S′
 use Rattle.registry_state.proofs.state.CredentialState as T
@@ -231,7 +232,7 @@ module _ {M : Type 1} (𝓤 : URA M) (H : Heap 𝓤) (A : Atoms 𝓤) (W : Given
           (λ hit. assigns ! (of-opd ! (load ! (from ! (stop !)) (look ! 17 refl))) (from ! (stop !)) (init ! 29 refl (tt, record { fits = here-fits l (f .0) n-fits })) $
           shuts-slice ! tt T.the-row q′ ys b o $
           returns-within ! Post refl (look ! 28 refl) $ forget ! 2 refl $ forget ! 4 refl $ forget ! 6 refl $ forget ! 8 refl $ forget ! 10 refl $ forget ! 14 refl $ forget ! 16 refl $ forget ! 18 refl $ forget ! 20 refl $ forget ! 22 refl $ forget ! 24 refl $ forget ! 26 refl $ forget ! 28 refl $
-          ends (n - suc t) (here-fits l (f .0) n-fits) (at-hit ys reg cred count t f (sym e ∙ holds r hit)))
+          ends (n - suc t) (here-fits l (f .0) n-fits) (at-hit ys reg cred count t f (sym e ∙ holds-true r hit)))
           (λ miss. skips ! $ exec ! C Λ En step-on (Turned (suc t)) $
           assigns-last ! (bin ! (load ! (from ! (stop !)) (look ! 17 refl)) (lit ! tt) (record { fits = next-fits l (f .0) n-fits })) (from ! (stop !)) (store ! 17 refl (tt, record { fits = next-fits l (f .0) n-fits })) $
           forget ! 3 refl $ forget ! 5 refl $ forget ! 7 refl $ forget ! 9 refl $ forget ! 11 refl $ forget ! 15 refl $

@@ -17,11 +17,10 @@ unfolding eqMatter
 other-matter a b h = rw (ne-eqb (a .w0) (b .w0) h, and-false (eqb (a .code) (b .code)))
 
 other-key : (w : CredentialState) (r c : Said) → (w .credential .0 .w0 ≡ c .0 .w0 → ⊥) → false ≡ hasKey w r c
-unfolding hasKey
 other-key w r c h = sym (rw (other-matter (w .credential .0) (c .0) h) (and-false (eqMatter (w .registry .0) (r .0))))
 
 returns : tie.Need-returns
-returns c = other-key _ _ _ (c .if1 .taken)
+returns c = let a = c .before .before .before .args in other-key (a .w) (a .registry) (a .credential) (c .if1 .taken)
 
 same-requires : tie.Need-same-requires
 same-requires c κs = search needs
@@ -30,7 +29,6 @@ same-requires-2 : tie.Need-same-requires-2
 same-requires-2 c κs = search needs
 
 returns-2 : tie.Need-returns-2
-unfolding hasKey
 returns-2 c = rw (c .same2 .ensures, c .before .same .ensures)
 
 pub has-key-spec : {M : Type 1} → statement M

@@ -47,11 +47,13 @@ use denote.Triple.Table.{entered, cited}
 use denote.Triple.Walked.{says, Stays, stay-none, stay-none-slice, walkOf, goes-none, goes-none-slice, Walks, ends-at, walked, walk-meets}
 use denote.Exit.{yes}
 use Rattle.cesr.specs.declared.primitive.Said.{Said}
-use Rattle.registry_state.specs.States.{noCredential}
+use Rattle.registry_state.specs.States.{noCredential, wellCredential}
 use Rattle.registry_state.specs.declared.state.CredentialState.{CredentialState}
-use Rattle.ledger_rows.specs.Rows.{rowAt, findAt, soundRow, rowsSound}
-use Rattle.ledger_rows.proofs.Places.{offset-fits, below, there, here-fits, next-fits, next-is, none-passed, all-passed, none-left, fails}
-use Rattle.ledger_rows.proofs.Sound.{Facts, passesAt, enough, wrong-size, at-start, at-end, at-bad, at-good}
+use Rattle.ledger_step.specs.Ledgers.{zeroOrOne}
+use Rattle.ledger_step.proofs.Turns.{below, there, here-fits, next-fits, next-is, none-passed, all-passed, none-left, fails}
+use Rattle.ledger_rows.specs.Rows.{rowAt, findAt}
+use Rattle.ledger_rows.proofs.Places.{offset-fits}
+use Rattle.ledger_rows.proofs.Sound.{Facts, passesAt, answer, enough, wrong-size, at-start, at-end, at-bad, at-good}
 use Rattle.cesr.proofs.primitive.Said as S
 use Rattle.cesr.proofs.primitive.Said.Laws as S′
 use Rattle.registry_state.proofs.state.CredentialState as T
@@ -120,7 +122,7 @@ module _ {M : Type 1} (𝓤 : URA M) (H : Heap 𝓤) (A : Atoms 𝓤) (W : Given
   abbrev Own : Fml
   Own = ShrSlice (named 0) κ T.the-row .own rows (s ∷ [])
 
-  exits : (r : Bool) → r ≡ rowsSound ys n → ent 𝓤 (⋆ 𝓤 H A (‵ (flft κ q) ∷ ‵ Own ∷ [])) (Post (vbool r))
+  exits : (r : Bool) → r ≡ answer ys n → ent 𝓤 (⋆ 𝓤 H A (‵ (flft κ q) ∷ ‵ Own ∷ [])) (Post (vbool r))
   exits r e =
       qed W (‵ (flft κ q) ∷ ‵ Own ∷ []) ∵
       suffices ! _ (ends-at 𝓤 H A me.ended stayed (me.clauses 𝓤 H A mem run) W (((κ, tt), (q, tt), tt, x, at), tt) (vbool r) r (tt, (tt, tt)) (tt, (tt, tt))) $ says ! e $
@@ -174,8 +176,8 @@ module _ {M : Type 1} (𝓤 : URA M) (H : Heap 𝓤) (A : Atoms 𝓤) (W : Given
   goes-pass i c fits found-fits g =
       qed W [] ∵ nothing ! $ owned ! usize (Is usize) (uint-makes 𝓤 H A W w64) i _ (refl, fits) $ fjoin ! $ owned ! usize (Is usize) (uint-makes 𝓤 H A W w64) (found i c) _ (refl, found-fits) $ fjoin ! $ owned ! T.the-row (Is T.the-row) ((LL.makes T.the-type T′.the-plain) 𝓤 H A) c _ g $ fjoin ! $ nothing ! $ join ! $ nothing ! $ move ! (1 ∷ 0 ∷ []) $ frame ! $ done !
 
-  said-pass : (i : ℕ) (c : CredentialState) (r : Bool) → ent 𝓤 (ensured 𝓤 H A pass.ended (pass.clauses 𝓤 H A mem run) tt (arg-pass i c) tt r) (fact 𝓤 (r ≡ (soundRow c && leb i (found i c))))
-  said-pass i c r = exE 𝓤 _ (λ ws. snd∗ 𝓤 (sem 𝓤 H A (lasts pass.ended tt (arg-pass i c) ws)) (fact 𝓤 (r ≡ (soundRow c && leb i (found i c)))))
+  said-pass : (i : ℕ) (c : CredentialState) (r : Bool) → ent 𝓤 (ensured 𝓤 H A pass.ended (pass.clauses 𝓤 H A mem run) tt (arg-pass i c) tt r) (fact 𝓤 (r ≡ ((wellCredential c && zeroOrOne c) && leb i (found i c))))
+  said-pass i c r = exE 𝓤 _ (λ ws. snd∗ 𝓤 (sem 𝓤 H A (lasts pass.ended tt (arg-pass i c) ws)) (fact 𝓤 (r ≡ ((wellCredential c && zeroOrOne c) && leb i (found i c)))))
 
   module _ (𝓣 : Tables 𝓤 H) (known-size : Triple 𝓤 (𝓣 .C #size) (RightSize 𝓤 H A mem run)) (known-find : Triple 𝓤 (𝓣 .C #find) (FindAt 𝓤 H A mem run)) (known-pass : Triple 𝓤 (𝓣 .C #pass) (Passes 𝓤 H A mem run)) where
     abbrev C : Calls 𝓤 H
@@ -207,7 +209,7 @@ module _ {M : Type 1} (𝓤 : URA M) (H : Heap 𝓤) (A : Atoms 𝓤) (W : Given
       abbrev Turned : ℕ → Kit.Post 𝓤 H
       Turned t = anyQ (afterTurn 𝓤 H (Below 𝓤 H A _<_ Inv t) (Kit.post 𝓤 H Left))
 
-      ends : (r : Bool) → r ≡ rowsSound ys n → Sq W (‵ (flft κ q) ∷ ‵ Own ∷ Freed) (frees En (prop (Post (vbool r))))
+      ends : (r : Bool) → r ≡ answer ys n → Sq W (‵ (flft κ q) ∷ ‵ Own ∷ Freed) (frees En (prop (Post (vbool r))))
       ends r e = move ! (28 ∷ 29 ∷ []) $ free1 ! $ move ! (26 ∷ 27 ∷ []) $ free1 ! $ move ! (24 ∷ 25 ∷ []) $ free1 ! $ move ! (22 ∷ 23 ∷ []) $ free1 ! $ move ! (20 ∷ 21 ∷ []) $ free1 ! $ move ! (18 ∷ 19 ∷ []) $ free1 ! $ move ! (16 ∷ 17 ∷ []) $ free1 ! $ move ! (14 ∷ 15 ∷ []) $ free1 ! $ move ! (12 ∷ 13 ∷ []) $ free1 ! $ move ! (10 ∷ 11 ∷ []) $ free1 ! $ move ! (8 ∷ 9 ∷ []) $ free1 ! $ move ! (6 ∷ 7 ∷ []) $ free1 ! $ move ! (4 ∷ 5 ∷ []) $ free1 ! $ move ! (2 ∷ 3 ∷ []) $ free1 ! $ free0 ! $ by ! (exits r e)
 
       -- where the sizes are right

@@ -1,0 +1,9 @@
+pub mod Asked
+pub mod Cases
+pub mod Computations
+pub mod EachNeeded
+pub mod Exchanges
+pub mod FiveConditions
+pub mod HeldRows
+pub mod MetOrders
+pub mod Reordered

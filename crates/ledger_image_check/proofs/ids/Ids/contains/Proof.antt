@@ -1,0 +1,68 @@
+use Prim.Native.Nat.{_≤_, _-_}
+use mathlib.Core.Path.{_≡_, refl, _∙_}
+use native.Mathlib.Omega.{arith}
+use borrow.Author.Needs.{needs}
+use lib.ListN.{length, take}
+use lib.Seq.{take-length}
+use Rattle.cesr.specs.Primitives.{eqSaid}
+use Rattle.ledger_step.specs.Tables.{has}
+use Rattle.ledger_image_check.specs.Checks.{viewIds}
+use Rattle.ledger_image_check.proofs.IdViews.{has-next}
+use Rattle.ledger_image_check.proofs.ids.Ids.contains.Statement.{statement}
+use Rattle.ledger_image_check.proofs.ids.Ids.contains.Tie as tie
+
+abbrev Inv-loop : tie.InvT-loop
+Inv-loop self id n found₀ i₀ found i = (i ≤ n) × (found ≡ has eqSaid id (take i (viewIds self)))
+
+abbrev μ-loop : tie.MeasureT-loop
+μ-loop self id n found₀ i₀ found i = n - i
+
+size-requires : tie.Need-size-requires Inv-loop μ-loop
+size-requires c κs = search needs
+
+loop-holds : tie.Need-loop-holds Inv-loop μ-loop
+unfolding has
+loop-holds c = (search needs, refl)
+
+item-requires : tie.Need-item-requires Inv-loop μ-loop
+item-requires c κs = search needs
+
+same-requires : tie.Need-same-requires Inv-loop μ-loop
+same-requires c κs = search needs
+
+add-i : tie.Need-add-i Inv-loop μ-loop
+add-i c = search needs
+
+loop-less : tie.Need-loop-less Inv-loop μ-loop
+loop-less c = search needs
+
+loop-again : tie.Need-loop-again Inv-loop μ-loop
+loop-again c =
+    let b3 = c .before .before .before in
+    let a = b3 .before .before .args in (
+      search needs,
+      has-next _ _ (viewIds (a .self)) _ _ _ (omega (arith, b3 .before .size .ensures .0)) (b3 .loop .inv .1) (c .before .item .ensures) (c .same .ensures),
+    )
+
+returns : tie.Need-returns Inv-loop μ-loop
+returns c =
+    let l = c .before .loop in
+    let b2 = c .before .before in
+    let a = b2 .before .args in
+    let e : l .i ≡ length (viewIds (a .self)) = omega (arith, b2 .size .ensures .0) in
+    l .inv .1 ∙ rw (e, take-length (viewIds (a .self)))
+
+pub contains-spec : {M : Type 1} → statement M
+contains-spec =
+    tie.close
+    (tie.spec
+    Inv-loop
+    μ-loop
+    size-requires
+    loop-holds
+    item-requires
+    same-requires
+    add-i
+    loop-less
+    loop-again
+    returns)

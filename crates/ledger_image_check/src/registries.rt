@@ -1,0 +1,71 @@
+// The registries of an image: each is read, and held to the reading rules that speak of registries alone.
+use crate::ids::Ids;
+use codec_cursor::cursor::Cursor;
+use ledger_image::image::read_count;
+use ledger_registries::registries::registry_sound;
+use registry_state::state::RegistryRead;
+use registry_state::state::RegistryState;
+ghost use mathlib.Core.Path.{_≡_};
+ghost use mathlib.Core.Bool.{true};
+ghost use mathlib.Core.List.{map};
+ghost use Rattle.codec_cursor.specs.Readers.{starting};
+ghost use Rattle.registry_state.specs.States.{readRegistry, viewRegistryRead, wellRegistry};
+ghost use Rattle.ledger_image.specs.Images.{readRegistries};
+ghost use Rattle.ledger_image_check.specs.Checks.{viewIds, idIn, sectionPasses};
+
+// The registries' section as it was read: whether every registry passes, the ids, and the cursor behind the section.
+pub struct SectionRead {
+    pub ok: bool,
+    pub ids: Ids,
+    pub next: Cursor,
+}
+
+// The registry at a cursor. Its counts are those of its lists, so a registry that was read keeps to its layout.
+pub fn read_registry(c: Cursor, s: &[u8]) -> RegistryRead
+    ensures read { λ r. ⌜ viewRegistryRead r ≡ readRegistry (now (s .entry)) c ⌝ }
+    ensures well { λ r. ⌜ (r .next .ok ≡ true → wellRegistry (r .value) ≡ true) ⌝ }
+{
+    let r = RegistryState::read(c, s);
+    let g = r.value;
+    let next = r.next;
+    let id = g.id;
+    let issuer = g.issuer;
+    let sn = g.sn;
+    let latest = g.latest;
+    let toad = g.toad;
+    let configs = g.configs.trimmed();
+    let backers = g.backers.trimmed();
+    let value = RegistryState {
+        id,
+        issuer,
+        sn,
+        latest,
+        toad,
+        configs,
+        backers,
+    };
+    RegistryRead { value, next }
+}
+
+// A registry passes where it is there, keeps the rules of one registry, and has the id of none before it.
+pub(crate) fn check_registries(s: &[u8]) -> SectionRead
+    ensures ok { λ r. ⌜ r .ok ≡ sectionPasses (now (s .entry)) ⌝ }
+    ensures ids { λ r. ⌜ viewIds (r .ids) ≡ map idIn (readRegistries (now (s .entry)) starting .value) ⌝ }
+    ensures next { λ r. ⌜ r .next ≡ readRegistries (now (s .entry)) starting .next ⌝ }
+{
+    let section = read_count(Cursor::start(), s, 16);
+    let count = section.value;
+    let mut next = section.next;
+    let mut ok = true;
+    let mut ids = Ids::empty();
+    let mut i: usize = 0;
+    while i < count {
+        let g = read_registry(next, s);
+        let known = ids.contains(g.value.id);
+        ok = ok & (g.next.ok & (registry_sound(g.value) & !known));
+        ids = ids.push(g.value.id);
+        next = g.next;
+        i += 1;
+    }
+    SectionRead { ok, ids, next }
+}

@@ -1,0 +1,69 @@
+// The rows of an image, each of 115 bytes: read where they stand, and held to the reading rules that speak of rows.
+use crate::ids::Ids;
+use cesr::number::Sn;
+use cesr::number::read_u64;
+use cesr::primitive::Matter;
+use codec_cursor::cursor::Cursor;
+use registry_state::state::CredentialState;
+ghost use mathlib.Core.Path.{_≡_};
+ghost use Prim.Native.Nat.{_+_, _*_, _≤_};
+ghost use lib.ListN.{length};
+ghost use Rattle.registry_laws.specs.Pairs.{keyOf};
+ghost use Rattle.ledger_step.specs.Tables.{has};
+ghost use Rattle.ledger_step.specs.Ledgers.{eqPair};
+ghost use Rattle.ledger_image_check.specs.Checks.{viewIds, keyAt, keysFrom, rowPasses, rowsPass};
+
+// Whether the row at a place has the key of another. Most rows differ in the first word of the credential, so that is looked at first: every two rows are compared.
+fn same_key(s: &[u8], at: usize, w: CredentialState) -> bool
+    requires { ⌜ at + 115 ≤ length (now s) ⌝ }
+    ensures { λ r. ⌜ r ≡ eqPair (keyAt (now (s .entry)) at) (keyOf w) ⌝ }
+{
+    if read_u64(s, at + 34) != w.credential.0.w0 {
+        return false;
+    }
+    Matter::read(s, at).same(w.registry.0) & Matter::read(s, at + 33).same(w.credential.0)
+}
+
+// Whether the key is that of one of the n rows that stand from a place on.
+fn has_key(s: &[u8], at: usize, n: usize, w: CredentialState) -> bool
+    requires { ⌜ at + 115 * n ≤ length (now s) ⌝ }
+    ensures { λ r. ⌜ r ≡ has eqPair (keyOf w) (keysFrom (now (s .entry)) at n) ⌝ }
+{
+    let mut found = false;
+    let mut i: usize = 0;
+    while i < n {
+        found = found | same_key(s, at + 115 * i, w);
+        i += 1;
+    }
+    found
+}
+
+// A row passes where its letters are right, its registry is held, its sn is 0 or 1, and its key is that of none before it.
+fn row_passes(s: &[u8], at: usize, n: usize, ids: Ids) -> bool
+    requires { ⌜ at + 115 * n + 115 ≤ length (now s) ⌝ }
+    ensures { λ r. ⌜ r ≡ rowPasses (now (s .entry)) at (viewIds ids) n ⌝ }
+{
+    let place = Cursor {
+        ok: true,
+        at: at + 115 * n,
+    };
+    let row = CredentialState::read(place, s);
+    let two = Sn { hi: 0, lo: 2 };
+    let low = row.value.sn.less(two);
+    let home = ids.contains(row.value.registry);
+    row.next.ok & (home & (low & !has_key(s, at, n, row.value)))
+}
+
+// Whether each of the n rows that stand from a place on passes.
+pub(crate) fn check_rows(s: &[u8], at: usize, n: usize, ids: Ids) -> bool
+    requires { ⌜ at + 115 * n ≤ length (now s) ⌝ }
+    ensures { λ r. ⌜ r ≡ rowsPass (now (s .entry)) at (viewIds ids) n ⌝ }
+{
+    let mut ok = true;
+    let mut i: usize = 0;
+    while i < n {
+        ok = ok & row_passes(s, at, i, ids);
+        i += 1;
+    }
+    ok
+}
