@@ -1,0 +1,2 @@
+pub mod PartLent
+pub mod ImageWrites
