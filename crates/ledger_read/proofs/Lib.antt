@@ -1,0 +1,2 @@
+pub mod ImageStored
+pub mod ReadBack

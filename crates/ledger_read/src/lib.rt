@@ -1,0 +1,2 @@
+// An image read into the slices that a ledger lends (docs/RULES.md, "Image").
+pub mod read;
