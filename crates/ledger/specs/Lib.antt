@@ -1,2 +1,1 @@
-pub mod Stubs
 pub mod LedgerValues

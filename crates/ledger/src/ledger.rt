@@ -1,11 +1,10 @@
 // A ledger as a value: both arrays with their counts (docs/RULES.md, "Ledger"). Each call lends the arrays to the call of that name over slices.
-use crate::stubs::ImageRead;
-use crate::stubs::LookedUp;
-use crate::stubs::Written;
-use crate::stubs::look_up;
-use crate::stubs::read_image;
-use crate::stubs::write_image;
 use cesr::primitive::Said;
+use ledger_lookup::lookup::LookedUp;
+use ledger_lookup::lookup::look_up;
+use ledger_read::read::read_image;
+use ledger_write::write::Written;
+use ledger_write::write::write_image;
 use registry_state::state::CredentialState;
 use registry_state::state::RegistryState;
 ghost use mathlib.Core.Path.{_≡_};
@@ -13,7 +12,8 @@ ghost use mathlib.Core.List.{[]};
 ghost use Rattle.ledger_step.specs.Ledgers.{lookUp};
 ghost use Rattle.ledger_image.specs.Images.{ledgerOf, imageOf, imageNumber, writtenOf};
 ghost use Rattle.ledger_image.specs.Images.ImageAnswer.{refused};
-ghost use Rattle.ledger.specs.Stubs.{pairOf, viewLookedUp, viewWritten};
+ghost use Rattle.ledger_lookup.specs.Lookups.{keyPair, viewLookedUp};
+ghost use Rattle.ledger_write.specs.Writes.{viewWritten};
 ghost use Rattle.ledger.specs.LedgerValues.{viewLedger, ledgerAfter};
 
 // The registries are the first `registry_count`, the rows the first `row_count`. Whatever stands behind them is not of the ledger.
@@ -45,7 +45,7 @@ impl Ledger {
 
     // The standing of a credential.
     pub fn look_up(self, registry: Said, credential: Said) -> LookedUp
-        ensures { λ r. ⌜ viewLookedUp r ≡ lookUp (viewLedger self) (pairOf registry credential) ⌝ }
+        ensures { λ r. ⌜ viewLookedUp r ≡ lookUp (viewLedger self) (keyPair registry credential) ⌝ }
     {
         let registries = self.registries;
         let rows = self.rows;
@@ -65,13 +65,7 @@ impl Ledger {
     {
         let registries = self.registries;
         let rows = self.rows;
-        write_image(
-            &registries,
-            self.registry_count,
-            &rows,
-            self.row_count,
-            out,
-        )
+        write_image(&registries, self.registry_count, &rows, self.row_count, out)
     }
 
     // The ledger of an image. After a refusal it is this one, whatever stands in its arrays.

@@ -48,7 +48,7 @@ use Rattle.registry_state.specs.declared.state.RegistryState.{RegistryState}
 use Rattle.registry_state.specs.declared.state.CredentialState.{CredentialState}
 use Rattle.ledger_image.specs.Images.{imageInto, imageNumber}
 use Rattle.ledger_row_image.specs.RowImages.{rowsFrom}
-use Rattle.ledger_row_image.proofs.Relend.{Kept, relends, backs}
+use Rattle.ledger_step.proofs.Relend.{Kept, relends, backs}
 use Rattle.ledger_registry_image.specs.RegistrySections.{Stored}
 use Rattle.ledger_image_check.specs.declared.check.Checked.{Checked}
 use Rattle.ledger_image_check.specs.Checks.{viewChecked}

@@ -54,15 +54,15 @@ use Rattle.cesr.specs.declared.primitive.Said.{Said}
 use Rattle.cesr.proofs.primitive.Said as S
 use Rattle.cesr.proofs.primitive.Said.Laws as S′
 use Rattle.ledger_step.specs.Ledgers.{lentLedger, lookUp}
-use Rattle.ledger.specs.Stubs.{pairOf, viewLookedUp}
-use Rattle.ledger.specs.declared.stubs.LookedUp.{LookedUp as Answered}
-use Rattle.ledger.proofs.stubs.LookedUp as P
-use Rattle.ledger.proofs.stubs.LookedUp.Laws as P′
+use Rattle.ledger_lookup.specs.Lookups.{keyPair, viewLookedUp}
+use Rattle.ledger_lookup.specs.declared.lookup.LookedUp.{LookedUp as Answered}
+use Rattle.ledger_lookup.proofs.lookup.LookedUp as P
+use Rattle.ledger_lookup.proofs.lookup.LookedUp.Laws as P′
 use Rattle.ledger.specs.LedgerValues.{viewLedger}
-use Rattle.ledger.proofs.stubs.look_up as callee
-use Rattle.ledger.proofs.stubs.look_up.Symbol as callee-def
-use Rattle.ledger.proofs.stubs.look_up.Symbol.{name as #callee}
-use Rattle.ledger.proofs.stubs.look_up.Met as callee-thm
+use Rattle.ledger_lookup.proofs.lookup.look_up as callee
+use Rattle.ledger_lookup.proofs.lookup.look_up.Symbol as callee-def
+use Rattle.ledger_lookup.proofs.lookup.look_up.Symbol.{name as #callee}
+use Rattle.ledger_lookup.proofs.lookup.look_up.Met as callee-thm
 use Rattle.ledger.proofs.ledger.Ledger.look_up.Key.{name as #me}
 use Rattle.ledger.proofs.ledger.Ledger.look_up as me
 use Rattle.ledger.proofs.ledger.Ledger.look_up.Statement as stated
@@ -155,13 +155,13 @@ module _ {M : Type 1} (𝓤 : URA M) (H : Heap 𝓤) (A : Atoms 𝓤) (W : Given
     goes : ent 𝓤 (sep 𝓤 (A .lft (ν ∷ []) fullShare) (sep 𝓤 (sem 𝓤 H A Own-gs) (sem 𝓤 H A Own-ws))) (Callee 𝓤 H A mem run .pre to)
     goes = qed W (‵ (flft (ν ∷ []) fullShare) ∷ ‵ Own-gs ∷ ‵ Own-ws ∷ []) ∵ nothing ! $ move ! (1 ∷ 0 ∷ []) $ join ! $ nothing ! $ owned ! S.the-row (Is S.the-row) ((LL.makes S.the-type S′.the-plain) 𝓤 H A) credential _ is-credential $ fjoin ! $ owned ! S.the-row (Is S.the-row) ((LL.makes S.the-type S′.the-plain) 𝓤 H A) registry _ is-registry $ fjoin ! $ owned ! usize (Is usize) (uint-makes 𝓤 H A W w64) n _ (refl, (has .rows-counted)) $ fjoin ! $ move ! (3 ∷ 0 ∷ []) $ fjoin ! $ owned ! usize (Is usize) (uint-makes 𝓤 H A W w64) m _ (refl, (has .registries-counted)) $ fjoin ! $ move ! (2 ∷ 0 ∷ []) $ fjoin ! $ move ! (1 ∷ 0 ∷ []) $ join ! $ nothing ! $ move ! (1 ∷ 0 ∷ []) $ frame ! $ done !
 
-    said : (r : Answered) → ent 𝓤 (ensured 𝓤 H A callee.ended (callee.clauses 𝓤 H A mem run) (ν ∷ [], tt) arg tt r) (fact 𝓤 (viewLookedUp r ≡ lookUp (lentLedger gs m ws n) (pairOf registry credential)))
-    said r = exE 𝓤 _ (λ lasting. snd∗ 𝓤 (sem 𝓤 H A (lasts callee.ended (ν ∷ [], tt) arg lasting)) (fact 𝓤 (viewLookedUp r ≡ lookUp (lentLedger gs m ws n) (pairOf registry credential))))
+    said : (r : Answered) → ent 𝓤 (ensured 𝓤 H A callee.ended (callee.clauses 𝓤 H A mem run) (ν ∷ [], tt) arg tt r) (fact 𝓤 (viewLookedUp r ≡ lookUp (lentLedger gs m ws n) (keyPair registry credential)))
+    said r = exE 𝓤 _ (λ lasting. snd∗ 𝓤 (sem 𝓤 H A (lasts callee.ended (ν ∷ [], tt) arg lasting)) (fact 𝓤 (viewLookedUp r ≡ lookUp (lentLedger gs m ws n) (keyPair registry credential))))
 
-  exits : (r : Answered) (is-r : Is P.the-row r (P′.lowered r ∷ [])) (e : viewLookedUp r ≡ lookUp (lentLedger gs m ws n) (pairOf registry credential)) → ent 𝓤 (emp 𝓤) (Post (P′.lowered r))
+  exits : (r : Answered) (is-r : Is P.the-row r (P′.lowered r ∷ [])) (e : viewLookedUp r ≡ lookUp (lentLedger gs m ws n) (keyPair registry credential)) → ent 𝓤 (emp 𝓤) (Post (P′.lowered r))
   exits r is-r e =
       qed W ([]) ∵
-      suffices ! _ (ends-at 𝓤 H A me.ended stayed (me.clauses 𝓤 H A mem run) W ((tt, tt, tt, x, at), tt) (P′.lowered r) r (tt, (tt, (tt, tt))) (tt, (tt, (tt, tt)))) $ says ! (e ∙ ap (λ z. lookUp z (pairOf registry credential)) (viewed ledger)) $
+      suffices ! _ (ends-at 𝓤 H A me.ended stayed (me.clauses 𝓤 H A mem run) W ((tt, tt, tt, x, at), tt) (P′.lowered r) r (tt, (tt, (tt, tt))) (tt, (tt, (tt, tt)))) $ says ! (e ∙ ap (λ z. lookUp z (keyPair registry credential)) (viewed ledger)) $
       nothing ! $ nothing ! $ owned ! S.the-row (Is S.the-row) ((LL.makes S.the-type S′.the-plain) 𝓤 H A) credential _ is-credential $ fjoin ! $ owned ! S.the-row (Is S.the-row) ((LL.makes S.the-type S′.the-plain) 𝓤 H A) registry _ is-registry $ fjoin ! $ owned ! K.the-row (Is K.the-row) ((LL.makes K.the-type K′.the-plain) 𝓤 H A) ledger _ is-ledger $ fjoin ! $ move ! (1 ∷ 0 ∷ []) $ frame ! $ frame ! $ owned ! P.the-row (Is P.the-row) ((LL.makes P.the-type P′.the-plain) 𝓤 H A) r _ is-r $ done !
 
   module _ (C : Calls 𝓤 H) (Λ : Loops 𝓤 H) (fm : FmC 𝓤 H (W .laws) C) (known : Triple 𝓤 (C #callee) (Callee 𝓤 H A mem run)) where
@@ -169,7 +169,7 @@ module _ {M : Type 1} (𝓤 : URA M) (H : Heap 𝓤) (A : Atoms 𝓤) (W : Given
       abbrev En : Env 𝓤 H
       En = (P′.mir, l₀) ∷ (K′.mir, l₁) ∷ (S′.mir, l₂) ∷ (S′.mir, l₃) ∷ (arr-g, l₄) ∷ (arr-w, l₅) ∷ (aref-g, l₆) ∷ (slice-g, l₇) ∷ (aref-w, l₈) ∷ (slice-w, l₉) ∷ []
 
-      leaves : (r : Answered) (is-r : Is P.the-row r (P′.lowered r ∷ [])) (e : viewLookedUp r ≡ lookUp (lentLedger gs m ws n) (pairOf registry credential)) → Sq W (‵ (fat fullShare arr-w l₅ 0 (low-w ws)) ∷ ‵ (fat fullShare arr-g l₄ 0 (low-g gs)) ∷ ‵ (fat fullShare slice-w l₉ 0 (sliceVal (l₅, 0) (length ws))) ∷ ‵ (fdies slice-w l₉) ∷ ‵ (fat fullShare aref-w l₈ 0 (vptr l₅ 0)) ∷ ‵ (fdies aref-w l₈) ∷ ‵ (fat fullShare slice-g l₇ 0 (sliceVal (l₄, 0) (length gs))) ∷ ‵ (fdies slice-g l₇) ∷ ‵ (fat fullShare aref-g l₆ 0 (vptr l₄ 0)) ∷ ‵ (fdies aref-g l₆) ∷ ‵ (fdies arr-w l₅) ∷ ‵ (fdies arr-g l₄) ∷ ‵ (fat fullShare S′.mir l₃ 0 (S′.lowered credential)) ∷ ‵ (fdies S′.mir l₃) ∷ ‵ (fat fullShare S′.mir l₂ 0 (S′.lowered registry)) ∷ ‵ (fdies S′.mir l₂) ∷ ‵ (fat fullShare K′.mir l₁ 0 (spelled ledger)) ∷ ‵ (fdies K′.mir l₁) ∷ ‵ (fat fullShare P′.mir l₀ 0 (P′.lowered r)) ∷ ‵ (fdies P′.mir l₀) ∷ []) (runs C Λ En mirᶠ.t-8 (atRet En Post))
+      leaves : (r : Answered) (is-r : Is P.the-row r (P′.lowered r ∷ [])) (e : viewLookedUp r ≡ lookUp (lentLedger gs m ws n) (keyPair registry credential)) → Sq W (‵ (fat fullShare arr-w l₅ 0 (low-w ws)) ∷ ‵ (fat fullShare arr-g l₄ 0 (low-g gs)) ∷ ‵ (fat fullShare slice-w l₉ 0 (sliceVal (l₅, 0) (length ws))) ∷ ‵ (fdies slice-w l₉) ∷ ‵ (fat fullShare aref-w l₈ 0 (vptr l₅ 0)) ∷ ‵ (fdies aref-w l₈) ∷ ‵ (fat fullShare slice-g l₇ 0 (sliceVal (l₄, 0) (length gs))) ∷ ‵ (fdies slice-g l₇) ∷ ‵ (fat fullShare aref-g l₆ 0 (vptr l₄ 0)) ∷ ‵ (fdies aref-g l₆) ∷ ‵ (fdies arr-w l₅) ∷ ‵ (fdies arr-g l₄) ∷ ‵ (fat fullShare S′.mir l₃ 0 (S′.lowered credential)) ∷ ‵ (fdies S′.mir l₃) ∷ ‵ (fat fullShare S′.mir l₂ 0 (S′.lowered registry)) ∷ ‵ (fdies S′.mir l₂) ∷ ‵ (fat fullShare K′.mir l₁ 0 (spelled ledger)) ∷ ‵ (fdies K′.mir l₁) ∷ ‵ (fat fullShare P′.mir l₀ 0 (P′.lowered r)) ∷ ‵ (fdies P′.mir l₀) ∷ []) (runs C Λ En mirᶠ.t-8 (atRet En Post))
       leaves r is-r e =
           returns ! (look ! 18 refl) $
           forget ! 2 refl $ forget ! 4 refl $ forget ! 6 refl $ forget ! 8 refl $ forget ! 0 refl $ forget ! 1 refl $ forget ! 12 refl $ forget ! 14 refl $ forget ! 16 refl $ forget ! 18 refl $
@@ -224,8 +224,8 @@ module _ {M : Type 1} (𝓤 : URA M) (H : Heap 𝓤) (A : Atoms 𝓤) (W : Given
           await ! tt $
           pick ! (λ r. split ! $
           move ! (1 ∷ []) $
-          use1 W (raw (fact 𝓤 (viewLookedUp r ≡ lookUp (lentLedger gs m ws n) (pairOf registry credential)))) (said l₄ l₅ ν δ ε r) $
-          heard ! (viewLookedUp r ≡ lookUp (lentLedger gs m ws n) (pairOf registry credential)) (λ e. split ! $
+          use1 W (raw (fact 𝓤 (viewLookedUp r ≡ lookUp (lentLedger gs m ws n) (keyPair registry credential)))) (said l₄ l₅ ν δ ε r) $
+          heard ! (viewLookedUp r ≡ lookUp (lentLedger gs m ws n) (keyPair registry credential)) (λ e. split ! $
           move ! (1 ∷ []) $
           peeks ! P.the-row (Is P.the-row) (shows 𝓤 H A P.the-row) r (u ∷ []) (λ is-r. drop ! $
           land ! (from ! (stop !)) (init ! 19 refl (LL.lawful P.the-type P′.the-laws 𝓤 H A W .typed r _ is-r .0)) $
@@ -273,4 +273,4 @@ look-up-spec 𝓤 H 𝓜 𝓖 𝓡 =
     entered 𝓤 H (tripleOf 𝓤 H (𝓖 .A) me.signature (me.spec 𝓤 H (𝓖 .A) (𝓜 .mem) (𝓡 .run)))
     (tables 𝓤 H 𝓜 𝓡 code.env .C) (tables 𝓤 H 𝓜 𝓡 code.env .Λ) #me code.function (code.unfolded 𝓤 H 𝓜 𝓡)
     (me-meets 𝓤 H (𝓖 .A) (givenOf 𝓤 H 𝓜 𝓖) (𝓜 .mem) (𝓡 .run) (tablesOf 𝓤 H 𝓜 (tables 𝓤 H 𝓜 𝓡 code.env))
-    (cited 𝓤 H (Callee 𝓤 H (𝓖 .A) (𝓜 .mem) (𝓡 .run)) 𝓜 𝓡 code.env #callee callee-def.routine code.calls-ledger·stubs·look-up (callee-thm.met 𝓤 H 𝓜 𝓖 𝓡)))
+    (cited 𝓤 H (Callee 𝓤 H (𝓖 .A) (𝓜 .mem) (𝓡 .run)) 𝓜 𝓡 code.env #callee callee-def.routine code.calls-ledger-lookup·lookup·look-up (callee-thm.met 𝓤 H 𝓜 𝓖 𝓡)))

@@ -1,6 +1,6 @@
 -- `Ledger::read_image` meets its contract: a walk of its MIR, by hand. Both arrays are copied to locals and lent as `&mut` slices, each for a lifetime of the call; they come back at the lists that the call leaves, and a ledger is made of them.
 -- Assumes nothing.
-use mathlib.Core.Path.{_≡_, refl, sym, ap, subst}
+use mathlib.Core.Path.{_≡_, refl, sym, ap, _∙_, subst}
 use Prim.Native.Nat.{ℕ}
 use mathlib.Core.List.{List, [], _∷_}
 use lib.Dec.{lit<}
@@ -53,22 +53,23 @@ use Rattle.ledger.proofs.ledger.Ledger as K
 use Rattle.ledger.proofs.ledger.Ledger.Laws as K′
 use Rattle.ledger.proofs.ArrayLoans.{lends, backs}
 use Rattle.ledger.proofs.Spelled.{low-g, low-w, spelled, tells, IsG, IsW, Parts, parts, whole as ledger-is, length-g, length-w, room-g, room-w}
-use Rattle.ledger_image.specs.Images.{ImageAnswer, imageInto, imageOf, imageNumber}
+use Rattle.ledger_image.specs.Images.{imageInto, imageOf, imageNumber}
 use Rattle.ledger_image.specs.Images.ImageAnswer.{refused}
-use Rattle.ledger.specs.Stubs.{countsOf, countsAfter, rowsAfter, RegistriesAfter}
-use Rattle.ledger.specs.declared.stubs.ImageRead.{ImageRead}
-use Rattle.ledger.proofs.stubs.ImageRead as I
-use Rattle.ledger.proofs.stubs.ImageRead.Laws as I′
+use Rattle.ledger_read.proofs.ReadBack.{ReadInto}
+use Rattle.ledger_read.specs.ImageReads.{countsOf, countsAfter, rowsAfter, RegistriesAfter}
+use Rattle.ledger_read.specs.declared.read.ImageRead.{ImageRead}
+use Rattle.ledger_read.proofs.read.ImageRead as I
+use Rattle.ledger_read.proofs.read.ImageRead.Laws as I′
 use Rattle.ledger.specs.LedgerValues.{viewLedger, ledgerAfter}
 use Rattle.ledger.specs.declared.ledger.LedgerRead.{LedgerRead}
 use Rattle.ledger.proofs.ledger.LedgerRead as N
 use Rattle.ledger.proofs.ledger.LedgerRead.Laws as N′
 use Rattle.ledger.proofs.Spelled.{spelled-read, whole-read}
-use Rattle.ledger.proofs.ReadLedger.{answer-is, read-ledger, read-kept}
-use Rattle.ledger.proofs.stubs.read_image as callee
-use Rattle.ledger.proofs.stubs.read_image.Symbol as callee-def
-use Rattle.ledger.proofs.stubs.read_image.Symbol.{name as #callee}
-use Rattle.ledger.proofs.stubs.read_image.Met as callee-thm
+use Rattle.ledger.proofs.ReadLedger.{answer-is, read-view, read-kept}
+use Rattle.ledger_read.proofs.read.read_image as callee
+use Rattle.ledger_read.proofs.read.read_image.Symbol as callee-def
+use Rattle.ledger_read.proofs.read.read_image.Symbol.{name as #callee}
+use Rattle.ledger_read.proofs.read.read_image.Met as callee-thm
 use Rattle.ledger.proofs.ledger.Ledger.read_image.Key.{name as #me}
 use Rattle.ledger.proofs.ledger.Ledger.read_image as me
 use Rattle.ledger.proofs.ledger.Ledger.read_image.Statement as stated
@@ -114,25 +115,6 @@ module _ (r : ImageRead) (gs : List RegistryState) (ws : List CredentialState) w
   result-is : Is I.the-row r (I′.lowered r ∷ []) → IsG gs → IsW ws → Is N.the-row result (spelled-read result ∷ [])
   result-is is g w = whole-read result (LL.owed I.the-type I′.the-laws r _ is .0 .1) (next-parts is g w)
 
--- ---- what the call says, of the image alone
-abbrev Says : Ledger → ImageRead → List RegistryState → List CredentialState → ImageAnswer → Type 0
-Says ledger r gs′ ws′ a =
-    (r .number ≡ imageNumber a)
-    × (countsOf r ≡ countsAfter a (ledger .«registry_count») (ledger .«row_count»))
-    × (ws′ ≡ rowsAfter a (ledger .rows))
-    × RegistriesAfter a (ledger .registries) gs′
-
-module _ (ledger : Ledger) (has : Parts ledger) (s : List ℕ) (r : ImageRead) (gs′ : List RegistryState) (ws′ : List CredentialState)
-    (said : Says ledger r gs′ ws′ (imageInto (length (ledger .registries)) (length (ledger .rows)) s)) (g : IsG gs′) (w : IsW ws′) where
-  here : Says ledger r gs′ ws′ (imageOf s)
-  here = subst (Says ledger r gs′ ws′) (answer-is (ledger .registries) (ledger .rows) s (length-g (ledger .registries) (has .registries)) (length-w (ledger .rows) (has .rows))) said
-
-  of-ledger : viewLedger (next r gs′ ws′) ≡ ledgerAfter (imageOf s) (viewLedger ledger)
-  of-ledger = read-ledger ledger (next r gs′ ws′) s (length-w (ledger .rows) (has .rows)) (length-g gs′ g) (length-w ws′ w) (here .1, here .2, here .3)
-
-  of-refusal : imageOf s ≡ refused → next r gs′ ws′ ≡ ledger
-  of-refusal e = read-kept ledger (next r gs′ ws′) s (length-w (ledger .rows) (has .rows)) (length-g gs′ g) (length-w ws′ w) e (here .1, here .2, here .3)
-
 module _ {M : Type 1} (𝓤 : URA M) (H : Heap 𝓤) (A : Atoms 𝓤) (mem : Memory → SProp 𝓤) (run : Routine → Fun 𝓤) where
   -- the contract that the proof cites
   abbrev Callee : Contract 𝓤
@@ -173,6 +155,16 @@ module _ {M : Type 1} (𝓤 : URA M) (H : Heap 𝓤) (A : Atoms 𝓤) (W : Given
   abbrev Post : Val → SProp 𝓤
   Post = walkOf 𝓤 H A me.ended stayed (me.clauses 𝓤 H A mem run) .post (((κ, tt), (q, tt), tt, x, at), tt)
 
+  long-g : length gs ≡ 16
+  long-g = length-g gs (has .registries)
+
+  long-w : length ws ≡ 256
+  long-w = length-w ws (has .rows)
+
+  -- what the call says
+  into : (r : ImageRead) (gs′ : List RegistryState) (ws′ : List CredentialState) → (r .number ≡ imageNumber (imageInto (length gs) (length ws) image)) × (countsOf r ≡ countsAfter (imageInto (length gs) (length ws) image) m n) × (ws′ ≡ rowsAfter (imageInto (length gs) (length ws) image) ws) × (RegistriesAfter (imageInto (length gs) (length ws) image) gs gs′) → ReadInto image gs gs′ ws ws′ m n r
+  into r gs′ ws′ e = record { number = e .0; counts = e .1; rows = e .2; registries = e .3 }
+
   -- ---- the call, where the arrays of the locals lg and lw are lent under the names δ and ε
   module _ (lg lw ν μ : ℕ) (δ ε : GName) where
     abbrev ref-gs : RefT (List RegistryState)
@@ -207,7 +199,7 @@ module _ {M : Type 1} (𝓤 : URA M) (H : Heap 𝓤) (A : Atoms 𝓤) (W : Given
       qed W (‵ (flft κ q) ∷ []) ∵
       suffices ! _ (ends-at 𝓤 H A me.ended stayed (me.clauses 𝓤 H A mem run) W (((κ, tt), (q, tt), tt, x, at), tt) (spelled-read (result r gs′ ws′)) (result r gs′ ws′) (tt, (tt, tt)) (tt, (tt, tt))) $ suffices ! _ (assoc∗ 𝓤 (onExit 𝓤 H A me.ended stayed (κ, tt) (q, tt) at (spelled-read (result r gs′ ws′)) (result r gs′ ws′) x (tt, (tt, tt))) (fact 𝓤 (r .number ≡ imageNumber (imageOf image))) (sep 𝓤 (fact 𝓤 (viewLedger (next r gs′ ws′) ≡ ledgerAfter (imageOf image) (viewLedger ledger))) (fact 𝓤 (imageOf image ≡ refused → next r gs′ ws′ ≡ ledger)))) $
       suffices ! _ (assoc∗ 𝓤 (sep 𝓤 (onExit 𝓤 H A me.ended stayed (κ, tt) (q, tt) at (spelled-read (result r gs′ ws′)) (result r gs′ ws′) x (tt, (tt, tt))) (fact 𝓤 (r .number ≡ imageNumber (imageOf image)))) (fact 𝓤 (viewLedger (next r gs′ ws′) ≡ ledgerAfter (imageOf image) (viewLedger ledger))) (fact 𝓤 (imageOf image ≡ refused → next r gs′ ws′ ≡ ledger))) $
-      says ! (of-refusal ledger has image r gs′ ws′ e is-gs is-ws) $ says ! (of-ledger ledger has image r gs′ ws′ e is-gs is-ws) $ says ! (here ledger has image r gs′ ws′ e is-gs is-ws .0) $
+      says ! (read-kept ledger image long-g long-w r gs′ ws′ (into r gs′ ws′ e)) $ says ! (read-view ledger image long-g long-w r gs′ ws′ (into r gs′ ws′ e)) $ says ! (e .0 ∙ ap imageNumber (answer-is gs ws image long-g long-w)) $
       nothing ! $ move ! (1 ∷ 0 ∷ []) $ join ! $ nothing ! $ nothing ! $ fjoin ! $ owned ! K.the-row (Is K.the-row) ((LL.makes K.the-type K′.the-plain) 𝓤 H A) ledger _ is-ledger $ fjoin ! $ move ! (1 ∷ 0 ∷ []) $ frame ! $ frame ! $ owned ! N.the-row (Is N.the-row) ((LL.makes N.the-type N′.the-plain) 𝓤 H A) (result r gs′ ws′) _ (result-is r gs′ ws′ is-r is-gs is-ws) $ done !
 
   module _ (C : Calls 𝓤 H) (Λ : Loops 𝓤 H) (fm : FmC 𝓤 H (W .laws) C) (known : Triple 𝓤 (C #callee) (Callee 𝓤 H A mem run)) where
@@ -378,4 +370,4 @@ read-image-spec 𝓤 H 𝓜 𝓖 𝓡 =
     entered 𝓤 H (tripleOf 𝓤 H (𝓖 .A) me.signature (me.spec 𝓤 H (𝓖 .A) (𝓜 .mem) (𝓡 .run)))
     (tables 𝓤 H 𝓜 𝓡 code.env .C) (tables 𝓤 H 𝓜 𝓡 code.env .Λ) #me code.function (code.unfolded 𝓤 H 𝓜 𝓡)
     (me-meets 𝓤 H (𝓖 .A) (givenOf 𝓤 H 𝓜 𝓖) (𝓜 .mem) (𝓡 .run) (tablesOf 𝓤 H 𝓜 (tables 𝓤 H 𝓜 𝓡 code.env))
-    (cited 𝓤 H (Callee 𝓤 H (𝓖 .A) (𝓜 .mem) (𝓡 .run)) 𝓜 𝓡 code.env #callee callee-def.routine code.calls-ledger·stubs·read-image (callee-thm.met 𝓤 H 𝓜 𝓖 𝓡)))
+    (cited 𝓤 H (Callee 𝓤 H (𝓖 .A) (𝓜 .mem) (𝓡 .run)) 𝓜 𝓡 code.env #callee callee-def.routine code.calls-ledger-read·read·read-image (callee-thm.met 𝓤 H 𝓜 𝓖 𝓡)))

@@ -54,15 +54,15 @@ use Rattle.ledger.proofs.ArrayLoans.{Shared, shares, unshares}
 use Rattle.ledger.proofs.Spelled.{low-g, low-w, spelled, tells, Parts, parts, length-g, length-w, room-g, room-w}
 use Rattle.ledger_step.specs.Ledgers.{lentLedger}
 use Rattle.ledger_image.specs.Images.{writtenOf}
-use Rattle.ledger.specs.Stubs.{viewWritten}
-use Rattle.ledger.specs.declared.stubs.Written.{Written as Answered}
-use Rattle.ledger.proofs.stubs.Written as P
-use Rattle.ledger.proofs.stubs.Written.Laws as P′
+use Rattle.ledger_write.specs.Writes.{viewWritten}
+use Rattle.ledger_write.specs.declared.write.Written.{Written as Answered}
+use Rattle.ledger_write.proofs.write.Written as P
+use Rattle.ledger_write.proofs.write.Written.Laws as P′
 use Rattle.ledger.specs.LedgerValues.{viewLedger}
-use Rattle.ledger.proofs.stubs.write_image as callee
-use Rattle.ledger.proofs.stubs.write_image.Symbol as callee-def
-use Rattle.ledger.proofs.stubs.write_image.Symbol.{name as #callee}
-use Rattle.ledger.proofs.stubs.write_image.Met as callee-thm
+use Rattle.ledger_write.proofs.write.write_image as callee
+use Rattle.ledger_write.proofs.write.write_image.Symbol as callee-def
+use Rattle.ledger_write.proofs.write.write_image.Symbol.{name as #callee}
+use Rattle.ledger_write.proofs.write.write_image.Met as callee-thm
 use Rattle.ledger.proofs.ledger.Ledger.write_image.Key.{name as #me}
 use Rattle.ledger.proofs.ledger.Ledger.write_image as me
 use Rattle.ledger.proofs.ledger.Ledger.write_image.Statement as stated
@@ -324,4 +324,4 @@ write-image-spec 𝓤 H 𝓜 𝓖 𝓡 =
     entered 𝓤 H (tripleOf 𝓤 H (𝓖 .A) me.signature (me.spec 𝓤 H (𝓖 .A) (𝓜 .mem) (𝓡 .run)))
     (tables 𝓤 H 𝓜 𝓡 code.env .C) (tables 𝓤 H 𝓜 𝓡 code.env .Λ) #me code.function (code.unfolded 𝓤 H 𝓜 𝓡)
     (me-meets 𝓤 H (𝓖 .A) (givenOf 𝓤 H 𝓜 𝓖) (𝓜 .mem) (𝓡 .run) (tablesOf 𝓤 H 𝓜 (tables 𝓤 H 𝓜 𝓡 code.env))
-    (cited 𝓤 H (Callee 𝓤 H (𝓖 .A) (𝓜 .mem) (𝓡 .run)) 𝓜 𝓡 code.env #callee callee-def.routine code.calls-ledger·stubs·write-image (callee-thm.met 𝓤 H 𝓜 𝓖 𝓡)))
+    (cited 𝓤 H (Callee 𝓤 H (𝓖 .A) (𝓜 .mem) (𝓡 .run)) 𝓜 𝓡 code.env #callee callee-def.routine code.calls-ledger-write·write·write-image (callee-thm.met 𝓤 H 𝓜 𝓖 𝓡)))
