@@ -1,0 +1,4 @@
+pub mod ArrayFields
+pub mod ArrayLoans
+pub mod ReadLedger
+pub mod Spelled

@@ -1,0 +1,23 @@
+use borrow.Author.Needs.{needs}
+use mathlib.Core.Path.{refl}
+use Rattle.ledger_step.specs.Ledgers.{lentLedger}
+use Rattle.ledger_image.specs.Images.{ledgerOf}
+use Rattle.ledger.specs.LedgerValues.{viewLedger}
+use Rattle.ledger.proofs.ledger.Ledger.empty.Statement.{statement}
+use Rattle.ledger.proofs.ledger.Ledger.empty.Tie as tie
+
+-- src/ledger.rt:39:26
+none-requires : tie.Need-none-requires
+none-requires c κs = search needs
+
+-- src/ledger.rt:41:20
+none-requires-2 : tie.Need-none-requires-2
+none-requires-2 c κs = search needs
+
+-- src/ledger.rt:35:5
+returns : tie.Need-returns
+unfolding viewLedger lentLedger ledgerOf
+returns c = refl
+
+pub empty-spec : {M : Type 1} → statement M
+empty-spec = tie.close (tie.spec none-requires none-requires-2 returns)
