@@ -9,6 +9,7 @@ use Rattle.laws.specs.Number.{numberAt}
 use Rattle.laws.specs.Room.{room}
 use Rattle.ledger_text.specs.declared.framing.Size.{Size}
 use Rattle.ledger_text.specs.declared.framing.Run.{Run}
+use Rattle.ledger_text.specs.Frames.{Frames}
 
 -- the two-byte number of what was read for it
 unfoldable pub sizeOf : List ℕ → Size
@@ -57,3 +58,12 @@ turnsOf (suc n) r s =
 -- the whole input: two bytes for the count, then the turns
 unfoldable pub runOf : ℕ → List ℕ → Outcome
 runOf n s = turnsOf n (startOf (take 2 s)) (drop 2 s)
+
+-- attempts with their positions, from p on
+unfoldable pub numbered : ℕ → List (List ℕ) → List Taken
+numbered p [] = []
+numbered p (a ∷ l) = record { position = p; attempt = a } ∷ numbered (suc p) l
+
+-- what a run has to come to: the whole attempts, from position 1, and whether the input is broken
+abbrev pub outcomeFrom : ℕ → Frames → Outcome
+outcomeFrom p f = record { taken = numbered p (f .attempts); broken = f .broken }
