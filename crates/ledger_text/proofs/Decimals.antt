@@ -3,8 +3,8 @@
 --     decimal-length                 how many digits a number has at most
 --     decimal-spelled                the digits, from the number of them
 use Prim.Native.Nat.{ℕ, zero, suc, _+_, _*_, _/_, _%_, _^_, _≤_, _<_}
-use mathlib.Core.Path.{_≡_, refl, ap, sym, _∙_}
-use mathlib.Core.Bool.{Bool, true, false, cond}
+use mathlib.Core.Path.{_≡_, refl, ap}
+use mathlib.Core.Bool.{Bool, true, false}
 use mathlib.Core.List.{List, [], _∷_, _++_}
 use native.Mathlib.Nat.{div-lt-self, div-lt-iff-lt-mul, mod-eq-of-lt, pow-zero, pow-suc}
 use native.Mathlib.Numerals.{add-one}

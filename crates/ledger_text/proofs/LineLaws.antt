@@ -4,18 +4,19 @@
 --     number-put, line-put, last-put pieces, one behind the other, are the line
 --     written, unwritten             what a writer that tests for room leaves and answers
 --     example                        the lines of docs/RULES.md's example
-use Prim.Native.Nat.{ℕ, suc, _+_, _^_, _≤_, _<_}
-use mathlib.Core.Path.{_≡_, refl, ap, sym, _∙_}
-use mathlib.Core.Bool.{Bool, true, false, cond}
+use Prim.Native.Nat.{ℕ, _+_, _^_, _≤_, _<_}
+use mathlib.Core.Path.{_≡_, refl, ap, _∙_}
+use mathlib.Core.Bool.{true, false}
 use mathlib.Core.List.{List, [], _∷_, _++_, append-assoc}
 use native.Mathlib.Nat.{zero-add}
 use native.Mathlib.Omega.{arith}
-use lib.Dec.{leb, lit<}
+use borrow.Author.Tests.{leb-true}
+use lib.Dec.{leb}
 use lib.ListN.{length, set, length-append}
-use lib.Seq.{sets}
-use Rattle.laws.specs.Room.{room, put}
+use lib.Seq.{sets, length-sets}
+use Rattle.laws.specs.Room.{put}
 use Rattle.laws.proofs.Room.{sets-append, stored, refused}
-use Rattle.ledger_text.specs.Lines.{decimal, decimalIn, lineBytes, registriesWord, credentialsWord, lastLine, brokenLine, sizeIn}
+use Rattle.ledger_text.specs.Lines.{decimal, decimalIn, lineBytes, registriesWord, credentialsWord, lastLine, sizeIn}
 use Rattle.ledger_text.proofs.Decimals.{decimal-length, word-length}
 
 pub line-length : (position number letter p q : ℕ) → p ≡ length (decimal position) → q ≡ length (decimal number) → length (lineBytes position number letter) ≡ p + q + 4
@@ -75,13 +76,16 @@ last-put l registries credentials p q e f =
     four-put l (registriesWord ++ (32 ∷ [])) (d ++ (32 ∷ [])) (credentialsWord ++ (32 ∷ [])) (g ++ (10 ∷ [])) 11 (p + 12) (p + 24) refl (rw (length-append, ← e) (omega arith)) (omega arith)
     ∙ ap (λ (bytes : List ℕ). sets l 0 bytes) t
 
-pub written : (l bytes m : List ℕ) (n : ℕ) → length bytes ≡ n → leb (0 + n) (length l) ≡ true → m ≡ sets l 0 bytes → (n ≡ sizeIn l bytes) × (m ≡ put l 0 bytes)
+-- what a writer that tests for room leaves and answers
+pub written : (l bytes m : List ℕ) (n : ℕ) → length bytes ≡ n → leb (0 + n) (length l) ≡ true → m ≡ sets l 0 bytes → ((n ≡ sizeIn l bytes) × (m ≡ put l 0 bytes)) × (n ≤ length m)
 unfolding sizeIn
-written l bytes m n e h f = let s = stored l 0 n bytes m e h f in (rw (e, ← s .0), s .1)
+written l bytes m n e h f =
+    let s = stored l 0 n bytes m e h f in
+    ((rw (e, ← s .0), s .1), rw (f, length-sets) (omega (arith, leb-true (0 + n) (length l) h)))
 
-pub unwritten : (l bytes : List ℕ) (n : ℕ) → length bytes ≡ n → leb (0 + n) (length l) ≡ false → (0 ≡ sizeIn l bytes) × (l ≡ put l 0 bytes)
+pub unwritten : (l bytes : List ℕ) (n : ℕ) → length bytes ≡ n → leb (0 + n) (length l) ≡ false → ((0 ≡ sizeIn l bytes) × (l ≡ put l 0 bytes)) × (0 ≤ length l)
 unfolding sizeIn
-unwritten l bytes n e h = let s = refused l 0 n bytes e h in (rw (e, ← s .0), s .1)
+unwritten l bytes n e h = let s = refused l 0 n bytes e h in ((rw (e, ← s .0), s .1), omega arith)
 
 -- `2 3 C`, and `registries 1 credentials 0`
 pub example : (lineBytes 2 3 67 ≡ 50 ∷ 32 ∷ 51 ∷ 32 ∷ 67 ∷ 10 ∷ []) × (lastLine 1 0 ≡ registriesWord ++ (32 ∷ 49 ∷ 32 ∷ credentialsWord ++ (32 ∷ 48 ∷ 10 ∷ [])))

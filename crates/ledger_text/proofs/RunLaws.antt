@@ -2,24 +2,23 @@
 --     run-frames     for every input, and at least as many turns as it counts attempts: the whole attempts, from position 1, and brokenness
 --     run-bytes      65,535 turns are always enough
 --     run-printed    what such a run prints is what the program has to print
-use Prim.Native.Nat.{ℕ, zero, suc, _+_, _-_, _^_, _≤_, _<_, min}
-use mathlib.Core.Path.{_≡_, refl, ap, sym, _∙_}
-use mathlib.Core.Bool.{Bool, true, false, cond, not, _&&_, _||_}
-use mathlib.Core.List.{List, [], _∷_, _++_}
+use Prim.Native.Nat.{ℕ, zero, suc, _+_, _-_, _≤_, _<_}
+use mathlib.Core.Path.{_≡_, refl, sym}
+use mathlib.Core.Bool.{Bool, true, false, cond}
+use mathlib.Core.List.{List, [], _∷_}
 use native.Mathlib.Nat.{sub-self}
 use native.Mathlib.Omega.{arith}
 use borrow.Author.Tests.{lt-ltb, le-leb, lt-leb}
-use lib.Dec.{ltb, leb}
+use lib.Dec.{ltb}
 use lib.ListN.{length, take, drop, length-take, length-drop}
-use lib.Seq.{getD-take, take-nil}
+use lib.Seq.{getD-take}
 use Rattle.laws.specs.Number.{number, numberAt, Bytes}
 use Rattle.laws.specs.Room.{room}
 use Rattle.laws.proofs.Number.{number-below, whole-number}
 use Rattle.laws.proofs.Room.{room-true, room-false, true-room, false-room}
-use Rattle.ledger_text.specs.declared.framing.Size.{Size}
 use Rattle.ledger_text.specs.declared.framing.Run.{Run}
-use Rattle.ledger_text.specs.Frames.{Frames, framesIn, framesOf}
-use Rattle.ledger_text.specs.Runs.{sizeOf, startOf, tookOf, finishOf, Taken, Outcome, turnsOf, runOf, numbered, outcomeFrom}
+use Rattle.ledger_text.specs.Frames.{framesIn, framesOf}
+use Rattle.ledger_text.specs.Runs.{sizeOf, startOf, tookOf, finishOf, turnsOf, runOf, numbered, outcomeFrom}
 use Rattle.ledger_text.specs.Printed.{Answering, linesOf, afterAll, printedOf, takenLines, afterTaken, runPrints}
 
 -- two bytes that are there

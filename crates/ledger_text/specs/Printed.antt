@@ -3,7 +3,7 @@ use Prim.Native.Nat.{ℕ, suc}
 use mathlib.Core.Bool.{cond}
 use mathlib.Core.List.{List, [], _∷_, _++_}
 use Rattle.ledger_text.specs.Lines.{lineBytes, lastLine, brokenLine}
-use Rattle.ledger_text.specs.Frames.{Frames, framesOf}
+use Rattle.ledger_text.specs.Frames.{framesOf}
 use Rattle.ledger_text.specs.Runs.{Taken, Outcome}
 
 -- a ledger's answer to an attempt, the ledger after it, and how much a ledger holds

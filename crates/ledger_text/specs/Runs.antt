@@ -1,7 +1,7 @@
 -- The run of the program over its input, piece by piece (docs/RULES.md, "What the program prints"): what each piece comes to, and the
 -- whole run, as the program reads it. proofs/ has the law that it takes exactly the attempts of `framesOf`.
 use Prim.Native.Nat.{ℕ, zero, suc, _+_, _-_}
-use mathlib.Core.Bool.{Bool, true, false, not, cond, _&&_, _||_}
+use mathlib.Core.Bool.{Bool, true, not, cond, _&&_, _||_}
 use mathlib.Core.List.{List, [], _∷_}
 use lib.Dec.{ltb, leb}
 use lib.ListN.{length, take, drop}

@@ -71,6 +71,7 @@ fn put_text(out: &mut [u8], at: usize, text: &[u8])
 // An attempt's line. It answers the line's length, or 0 where the buffer is too short.
 pub fn write_line(out: &mut [u8], position: u64, number: u8, letter: u8) -> usize
     ensures { λ r. ⌜ (r ≡ sizeIn (now (out .entry)) (lineBytes position number letter)) × (now (out .exit) ≡ put (now (out .entry)) 0 (lineBytes position number letter)) ⌝ }
+    ensures { λ r. ⌜ r ≤ length (now (out .exit)) ⌝ }
 {
     let p = places(position);
     let q = places(number as u64);
@@ -86,6 +87,7 @@ pub fn write_line(out: &mut [u8], position: u64, number: u8, letter: u8) -> usiz
 
 fn write_counts(out: &mut [u8], registries: usize, credentials: usize) -> usize
     ensures { λ r. ⌜ (r ≡ sizeIn (now (out .entry)) (lastLine registries credentials)) × (now (out .exit) ≡ put (now (out .entry)) 0 (lastLine registries credentials)) ⌝ }
+    ensures { λ r. ⌜ r ≤ length (now (out .exit)) ⌝ }
 {
     let p = places(registries as u64);
     let q = places(credentials as u64);
@@ -102,6 +104,7 @@ fn write_counts(out: &mut [u8], registries: usize, credentials: usize) -> usize
 
 fn write_broken(out: &mut [u8]) -> usize
     ensures { λ r. ⌜ (r ≡ sizeIn (now (out .entry)) brokenLine) × (now (out .exit) ≡ put (now (out .entry)) 0 brokenLine) ⌝ }
+    ensures { λ r. ⌜ r ≤ length (now (out .exit)) ⌝ }
 {
     if !has_room(out.len(), 0, 7) {
         return 0;
@@ -113,6 +116,7 @@ fn write_broken(out: &mut [u8]) -> usize
 // The last line. It answers the line's length, or 0 where the buffer is too short.
 pub fn write_last(out: &mut [u8], broken: bool, registries: usize, credentials: usize) -> usize
     ensures { λ r. ⌜ (r ≡ sizeIn (now (out .entry)) (cond broken brokenLine (lastLine registries credentials))) × (now (out .exit) ≡ put (now (out .entry)) 0 (cond broken brokenLine (lastLine registries credentials))) ⌝ }
+    ensures { λ r. ⌜ r ≤ length (now (out .exit)) ⌝ }
 {
     if broken {
         return write_broken(out);

@@ -1,11 +1,10 @@
-use Prim.Native.Nat.{ℕ, _+_, _-_, _≤_}
+use Prim.Native.Nat.{ℕ, _-_, _≤_}
 use mathlib.Core.Path.{_≡_, ap, sym, _∙_}
 use mathlib.Core.List.{List}
 use denote.Ref.{now}
 use native.Mathlib.Omega.{arith}
 use lib.ListN.{length, length-set}
 use lib.Seq.{sets}
-use Rattle.ledger_text.specs.Lines.{decimal}
 use Rattle.ledger_text.proofs.Decimals.{spelled, decimal-spelled, digit-put}
 use borrow.Author.Needs.{needs}
 use Rattle.ledger_text.proofs.text.put_decimal.Statement.{statement}
