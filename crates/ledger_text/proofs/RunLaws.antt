@@ -3,7 +3,7 @@
 --     run-bytes      65,535 turns are always enough
 --     run-printed    what such a run prints is what the program has to print
 use Prim.Native.Nat.{ℕ, zero, suc, _+_, _-_, _≤_, _<_}
-use mathlib.Core.Path.{_≡_, refl, sym}
+use mathlib.Core.Path.{_≡_, refl, sym, _∙_}
 use mathlib.Core.Bool.{Bool, true, false, cond}
 use mathlib.Core.List.{List, [], _∷_}
 use native.Mathlib.Nat.{sub-self}
@@ -30,7 +30,9 @@ size-whole : (s : List ℕ) → 2 ≤ length s → sizeOf (take 2 s) ≡ record 
 unfolding sizeOf
 size-whole s h =
     let g : 0 + 2 ≤ length (take 2 s) = rw length-take (omega arith) in
-    rw (true-room (take 2 s) 0 2 g, whole-number (take 2 s) 0 2 g, pair-taken s)
+    let a = true-room (take 2 s) 0 2 g in
+    let b = whole-number (take 2 s) 0 2 g ∙ pair-taken s in
+    λ i. record { ok = a i; size = b i }
 
 size-none : (s : List ℕ) → length s < 2 → sizeOf (take 2 s) ≡ record { ok = false; size = 0 }
 unfolding sizeOf numberAt
