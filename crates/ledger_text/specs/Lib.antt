@@ -1,0 +1,4 @@
+pub mod Frames
+pub mod Runs
+pub mod Lines
+pub mod Printed
