@@ -239,11 +239,7 @@ module _ {M : Type 1} (𝓤 : URA M) (H : Heap 𝓤) (A : Atoms 𝓤) (W : Given
             assigns ! (bin ! (load ! (from ! (stop !)) (look ! 19 refl)) (load ! (from ! (stop !)) (look ! 21 refl)) tt) (from ! (stop !)) (init ! 11 refl (tt, tt)) $
             rewrite ! 11 (λ (z : Bool). ‵ (fat fullShare tyBool l₁₀ 0 (vbool z))) (lt-ltb (k - suc t) k (below l (f .0) k-fits)) refl $
             stays ! (load ! (from ! (stop !)) (look ! 11 refl)) $
-<<<<<<< HEAD
             assigns ! (bin ! (load ! (from ! (stop !)) (look ! 19 refl)) (lit ! tt) (record { fits = offset-fits 136 (room-ws .1) (there l (f .0) k-fits) })) (from ! (stop !)) (init ! 9 refl (tt, record { fits = offset-fits 136 (room-ws .1) (there l (f .0) k-fits) })) $
-=======
-            assigns ! (bin ! (load ! (from ! (stop !)) (look ! 19 refl)) (lit ! tt) (record { fits = offset-fits (room-ws .1) (there l (f .0) k-fits) })) (from ! (stop !)) (init ! 9 refl (tt, record { fits = offset-fits (room-ws .1) (there l (f .0) k-fits) })) $
->>>>>>> text
             assigns ! (bin ! (load ! (from ! (fld ! refl (stop !))) (look-in ! 25 (sub ! 0 refl (whole !)))) (load ! (from ! (stop !)) (look ! 9 refl)) tt) (from ! (stop !)) (init ! 7 refl (tt, tt)) $
             rewrite ! 7 (λ (z : ℕ). ‵ (fat fullShare tyPtr l₁₂ 0 (vptr b-ws z))) (sym (place-is 136 o-ws (k - suc t))) refl $
             move ! (2 ∷ []) $ use1 W (‵ Own-ws ⊛ ‵ Own-ws) (shr-slice-copy 𝓤 H A W (named 0) κ T.the-row .twice ref-ws (val-ws ∷ [])) $ split ! $ fsplit ! $ drop ! $ fsplit ! $ drop ! $ move ! (0 ∷ 2 ∷ []) $
