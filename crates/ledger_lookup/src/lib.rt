@@ -1,3 +1,3 @@
 // The calls of a ledger (docs/RULES.md, "Ledger").
-pub mod stubs;
 pub mod lookup;
+pub mod stubs;

@@ -64,8 +64,7 @@ pub fn sound<'a>(
     ensures { λ r. ⌜ r ≡ sound (lentLedger (now (registries .entry)) «registry_count» (now (rows .entry)) «row_count») ⌝ }
 {
     registries_sound(registries, registry_count)
-        & (rows_sound(rows, row_count)
-            & rows_held(registries, registry_count, rows, row_count))
+        & (rows_sound(rows, row_count) & rows_held(registries, registry_count, rows, row_count))
 }
 
 // What a look-up answers: 0 or the refusal 1, and 1 Issued, 2 Revoked, 3 Unknown, or 0 after a refusal.

@@ -237,45 +237,45 @@ module _ {M : Type 1} (𝓤 : URA M) (H : Heap 𝓤) (A : Atoms 𝓤) (W : Given
             ends true (at-end gs m ws n f))
         turn (suc t) =
             heard ! (Facts gs m ws n (suc t)) (λ f.
-              assigns ! (bin ! (load ! (from ! (stop !)) (look ! 19 refl)) (load ! (from ! (stop !)) (look ! 21 refl)) tt) (from ! (stop !)) (init ! 11 refl (tt, tt)) $
-              rewrite ! 11 (λ (z : Bool). ‵ (fat fullShare tyBool l₁₀ 0 (vbool z))) (lt-ltb (k - suc t) k (below l (f .0) k-fits)) refl $
-              stays ! (load ! (from ! (stop !)) (look ! 11 refl)) $
-              assigns ! (bin ! (load ! (from ! (stop !)) (look ! 19 refl)) (lit ! tt) (record { fits = offset-fits (room-ws .1) (there l (f .0) k-fits) })) (from ! (stop !)) (init ! 9 refl (tt, record { fits = offset-fits (room-ws .1) (there l (f .0) k-fits) })) $
-              assigns ! (bin ! (load ! (from ! (fld ! refl (stop !))) (look-in ! 25 (sub ! 0 refl (whole !)))) (load ! (from ! (stop !)) (look ! 9 refl)) tt) (from ! (stop !)) (init ! 7 refl (tt, tt)) $
-              rewrite ! 7 (λ (z : ℕ). ‵ (fat fullShare tyPtr l₁₂ 0 (vptr b-ws z))) (sym (place-is 136 o-ws (k - suc t))) refl $
-              move ! (2 ∷ []) $ use1 W (‵ Own-ws ⊛ ‵ Own-ws) (shr-slice-copy 𝓤 H A W (named 0) κ T.the-row .twice ref-ws (val-ws ∷ [])) $ split ! $ fsplit ! $ drop ! $ fsplit ! $ drop ! $ move ! (0 ∷ 2 ∷ []) $
-              looks-slice ! tt T.the-row (Is T.the-row) (shows 𝓤 H A T.the-row) (LL.vals T.the-type T′.the-laws) (LL.tells T.the-type T′.the-laws) (LL.copy T.the-type T′.the-copy 𝓤 H A W) ws b-ws o-ws (λ q′.
-              -- [the rows; the open borrow; the fractured borrow; what rows owns; what registries owns; _14; …]
-              elem-out ! T.the-row (Is T.the-row) (shows 𝓤 H A T.the-row) (LL.vals T.the-type T′.the-laws) (LL.tells T.the-type T′.the-laws) q′ ws (k - suc t) noCredential b-ws o-ws (there l (f .0) k-fits) (λ g.
-              assigns ! (of-opd ! (load ! (from ! (hop ! (look ! 11 refl) (stop !))) (look-raw ! 0 {τ = T′.mir} refl))) (from ! (stop !)) (init ! 9 refl (LL.lawful T.the-type T′.the-laws 𝓤 H A W .typed (getD ws (k - suc t) noCredential) _ g .0)) $
-              elem-back ! T.the-row q′ ws (k - suc t) noCredential (T′.lowered (getD ws (k - suc t) noCredential) ∷ []) b-ws o-ws (there l (f .0) k-fits) $ shuts-slice ! tt T.the-row q′ ws b-ws o-ws $ move ! (1 ∷ []) $ drop ! $ move ! (0 ∷ 2 ∷ 1 ∷ []) $
-              -- [the token; what registries owns; what rows owns; _14; …]
-              assigns ! (of-opd ! (load ! (from ! (stop !)) (look ! 5 refl))) (from ! (stop !)) (init ! 17 refl (LL.lawful T.the-type T′.the-laws 𝓤 H A W .typed (getD ws (k - suc t) noCredential) _ g .0)) $
-              move ! (1 ∷ []) $ use1 W (‵ Own-gs ⊛ ‵ Own-gs) (shr-slice-copy 𝓤 H A W (named 0) κ G.the-row .twice ref-gs (val-gs ∷ [])) $ split ! $ move ! (2 ∷ 0 ∷ []) $ use2 W (raw (FindRegistry 𝓤 H A mem run .pre (to-find t))) ((goes-find t) (LL.owed T.the-type T′.the-laws (getD ws (k - suc t) noCredential) _ g .0)) $
-              calls-at ! (fmOf 𝓤 H (W .laws) 𝓣) (FindRegistry 𝓤 H A mem run) known-find (to-find t) (and-then ! (load ! (from ! (stop !)) (look ! 29 refl)) (and-then ! (load ! (from ! (stop !)) (look ! 27 refl)) (and-then ! (load ! (from ! (fld ! refl (stop !))) (look-in ! 17 (sub ! 0 refl (whole !)))) (no-more !)))) (λ u.
-              use1 W (later (some (λ (r : ℕ). ((‵ (flft κ q) ⊛ ‵ ftrue) ⊛ ‵ (usize .own r (u ∷ []))) ⊛ raw (ensured 𝓤 H A find.ended (find.clauses 𝓤 H A mem run) (κ, tt) (arg-find t) tt r)))) (id⊢ 𝓤 _) $ await ! tt $ pick ! (λ r.
-              split ! $ move ! (1 ∷ []) $ use1 W (raw (fact 𝓤 (r ≡ place t))) ((said-find t) r) $ heard ! (r ≡ place t) (λ e. split ! $ move ! (1 ∷ []) $
-              peeks ! usize (Is usize) (shows 𝓤 H A usize) r (u ∷ []) (λ is. drop ! $
-              land ! (from ! (stop !)) (init ! 15 refl (uint-lawful 𝓤 H A W w64 .typed r _ is .0)) $
-              rewrite ! 15 (λ (z : Val). ‵ (fat fullShare word l₈ 0 (z))) (ap only (is .0) ∙ ap (vint w64) e) refl $
-              split ! $ move ! (1 ∷ []) $ drop ! $ assigns ! (of-opd ! (load ! (from ! (fld ! refl (stop !))) (look-in ! 29 (sub ! 1 refl (whole !))))) (from ! (stop !)) (store ! 9 refl (tt, record { fits = room-gs .0 })) $
-              use0 W (raw (IsFound 𝓤 H A mem run .pre (to-test t))) ((goes-test t) (subst (λ (j : ℕ). j < 2 ^ 64) e (is .1))) $
-              calls-at ! (fmOf 𝓤 H (W .laws) 𝓣) (IsFound 𝓤 H A mem run) known-test (to-test t) (and-then ! (load ! (from ! (stop !)) (look ! 16 refl)) (and-then ! (load ! (from ! (stop !)) (look ! 28 refl)) (and-then ! (load ! (from ! (stop !)) (look ! 10 refl)) (no-more !)))) (λ u.
-              use1 W (later (some (λ (r : Bool). (‵ ftrue ⊛ ‵ (Boolean .own r (u ∷ []))) ⊛ raw (ensured 𝓤 H A test.ended (test.clauses 𝓤 H A mem run) tt (arg-test t) tt r)))) (id⊢ 𝓤 _) $ await ! tt $ pick ! (λ r.
-              split ! $ move ! (1 ∷ []) $ use1 W (raw (fact 𝓤 (r ≡ heldAt gs m ws n (k - suc t)))) ((said-test t) r) $ heard ! (r ≡ heldAt gs m ws n (k - suc t)) (λ e. split ! $ drop ! $
-              peeks ! Boolean (Is Boolean) (shows 𝓤 H A Boolean) r (u ∷ []) (λ is. drop ! $
-              land ! (from ! (stop !)) (store ! 11 refl (bool-lawful 𝓤 H A W .typed r _ is .0)) $
-              rewrite ! 11 (λ (z : Val). ‵ (fat fullShare tyBool l₁₀ 0 (z))) (ap only is ∙ ap vbool e) refl $ assigns ! (un ! (load ! (from ! (stop !)) (look ! 11 refl)) tt) (from ! (stop !)) (init ! 3 refl (tt, tt)) $
-              first ! $ branches ! (load ! (from ! (stop !)) (look ! 3 refl))
-              (λ hit. assigns ! (of-opd ! (false-lit !)) (from ! (stop !)) (init ! 31 refl (tt, tt)) $
-              returns-within ! Post refl (look ! 31 refl) $ forget ! 3 refl $ forget ! 5 refl $ forget ! 7 refl $ forget ! 9 refl $ forget ! 11 refl $ forget ! 15 refl $ forget ! 17 refl $ forget ! 19 refl $ forget ! 21 refl $ forget ! 23 refl $ forget ! 25 refl $ forget ! 27 refl $ forget ! 29 refl $ forget ! 31 refl $
-              ends false (at-bad gs m ws n t f (fails (heldAt gs m ws n (k - suc t)) hit)))
-              (λ miss. skips ! $ exec ! C Λ En step-on (Turned (suc t)) $
-              assigns-last ! (bin ! (load ! (from ! (stop !)) (look ! 19 refl)) (lit ! tt) (record { fits = next-fits l (f .0) k-fits })) (from ! (stop !)) (store ! 19 refl (tt, record { fits = next-fits l (f .0) k-fits })) $
-              forget ! 3 refl $ forget ! 5 refl $ forget ! 7 refl $ forget ! 9 refl $ forget ! 11 refl $ forget ! 15 refl $ forget ! 17 refl $
-              rewrite ! 19 (λ (z : ℕ). ‵ (fat fullShare word l₆ 0 (vint w64 z))) (next-is l (f .0) k-fits) refl $
-              use0 W (raw (fact 𝓤 (Facts gs m ws n t))) (factI 𝓤 (Facts gs m ws n t) (emp 𝓤) (at-good gs m ws n t f (not-false (heldAt gs m ws n (k - suc t)) (fails (not (heldAt gs m ws n (k - suc t))) miss)))) $
-              again ! _<_ Inv (suc t) t (lt-suc-self t)))))))))))))
+            assigns ! (bin ! (load ! (from ! (stop !)) (look ! 19 refl)) (load ! (from ! (stop !)) (look ! 21 refl)) tt) (from ! (stop !)) (init ! 11 refl (tt, tt)) $
+            rewrite ! 11 (λ (z : Bool). ‵ (fat fullShare tyBool l₁₀ 0 (vbool z))) (lt-ltb (k - suc t) k (below l (f .0) k-fits)) refl $
+            stays ! (load ! (from ! (stop !)) (look ! 11 refl)) $
+            assigns ! (bin ! (load ! (from ! (stop !)) (look ! 19 refl)) (lit ! tt) (record { fits = offset-fits (room-ws .1) (there l (f .0) k-fits) })) (from ! (stop !)) (init ! 9 refl (tt, record { fits = offset-fits (room-ws .1) (there l (f .0) k-fits) })) $
+            assigns ! (bin ! (load ! (from ! (fld ! refl (stop !))) (look-in ! 25 (sub ! 0 refl (whole !)))) (load ! (from ! (stop !)) (look ! 9 refl)) tt) (from ! (stop !)) (init ! 7 refl (tt, tt)) $
+            rewrite ! 7 (λ (z : ℕ). ‵ (fat fullShare tyPtr l₁₂ 0 (vptr b-ws z))) (sym (place-is 136 o-ws (k - suc t))) refl $
+            move ! (2 ∷ []) $ use1 W (‵ Own-ws ⊛ ‵ Own-ws) (shr-slice-copy 𝓤 H A W (named 0) κ T.the-row .twice ref-ws (val-ws ∷ [])) $ split ! $ fsplit ! $ drop ! $ fsplit ! $ drop ! $ move ! (0 ∷ 2 ∷ []) $
+            looks-slice ! tt T.the-row (Is T.the-row) (shows 𝓤 H A T.the-row) (LL.vals T.the-type T′.the-laws) (LL.tells T.the-type T′.the-laws) (LL.copy T.the-type T′.the-copy 𝓤 H A W) ws b-ws o-ws (λ q′.
+            -- [the rows; the open borrow; the fractured borrow; what rows owns; what registries owns; _14; …]
+            elem-out ! T.the-row (Is T.the-row) (shows 𝓤 H A T.the-row) (LL.vals T.the-type T′.the-laws) (LL.tells T.the-type T′.the-laws) q′ ws (k - suc t) noCredential b-ws o-ws (there l (f .0) k-fits) (λ g.
+            assigns ! (of-opd ! (load ! (from ! (hop ! (look ! 11 refl) (stop !))) (look-raw ! 0 {τ = T′.mir} refl))) (from ! (stop !)) (init ! 9 refl (LL.lawful T.the-type T′.the-laws 𝓤 H A W .typed (getD ws (k - suc t) noCredential) _ g .0)) $
+            elem-back ! T.the-row q′ ws (k - suc t) noCredential (T′.lowered (getD ws (k - suc t) noCredential) ∷ []) b-ws o-ws (there l (f .0) k-fits) $ shuts-slice ! tt T.the-row q′ ws b-ws o-ws $ move ! (1 ∷ []) $ drop ! $ move ! (0 ∷ 2 ∷ 1 ∷ []) $
+            -- [the token; what registries owns; what rows owns; _14; …]
+            assigns ! (of-opd ! (load ! (from ! (stop !)) (look ! 5 refl))) (from ! (stop !)) (init ! 17 refl (LL.lawful T.the-type T′.the-laws 𝓤 H A W .typed (getD ws (k - suc t) noCredential) _ g .0)) $
+            move ! (1 ∷ []) $ use1 W (‵ Own-gs ⊛ ‵ Own-gs) (shr-slice-copy 𝓤 H A W (named 0) κ G.the-row .twice ref-gs (val-gs ∷ [])) $ split ! $ move ! (2 ∷ 0 ∷ []) $ use2 W (raw (FindRegistry 𝓤 H A mem run .pre (to-find t))) ((goes-find t) (LL.owed T.the-type T′.the-laws (getD ws (k - suc t) noCredential) _ g .0)) $
+            calls-at ! (fmOf 𝓤 H (W .laws) 𝓣) (FindRegistry 𝓤 H A mem run) known-find (to-find t) (and-then ! (load ! (from ! (stop !)) (look ! 29 refl)) (and-then ! (load ! (from ! (stop !)) (look ! 27 refl)) (and-then ! (load ! (from ! (fld ! refl (stop !))) (look-in ! 17 (sub ! 0 refl (whole !)))) (no-more !)))) (λ u.
+            use1 W (later (some (λ (r : ℕ). ((‵ (flft κ q) ⊛ ‵ ftrue) ⊛ ‵ (usize .own r (u ∷ []))) ⊛ raw (ensured 𝓤 H A find.ended (find.clauses 𝓤 H A mem run) (κ, tt) (arg-find t) tt r)))) (id⊢ 𝓤 _) $ await ! tt $ pick ! (λ r.
+            split ! $ move ! (1 ∷ []) $ use1 W (raw (fact 𝓤 (r ≡ place t))) ((said-find t) r) $ heard ! (r ≡ place t) (λ e. split ! $ move ! (1 ∷ []) $
+            peeks ! usize (Is usize) (shows 𝓤 H A usize) r (u ∷ []) (λ is. drop ! $
+            land ! (from ! (stop !)) (init ! 15 refl (uint-lawful 𝓤 H A W w64 .typed r _ is .0)) $
+            rewrite ! 15 (λ (z : Val). ‵ (fat fullShare word l₈ 0 (z))) (ap only (is .0) ∙ ap (vint w64) e) refl $
+            split ! $ move ! (1 ∷ []) $ drop ! $ assigns ! (of-opd ! (load ! (from ! (fld ! refl (stop !))) (look-in ! 29 (sub ! 1 refl (whole !))))) (from ! (stop !)) (store ! 9 refl (tt, record { fits = room-gs .0 })) $
+            use0 W (raw (IsFound 𝓤 H A mem run .pre (to-test t))) ((goes-test t) (subst (λ (j : ℕ). j < 2 ^ 64) e (is .1))) $
+            calls-at ! (fmOf 𝓤 H (W .laws) 𝓣) (IsFound 𝓤 H A mem run) known-test (to-test t) (and-then ! (load ! (from ! (stop !)) (look ! 16 refl)) (and-then ! (load ! (from ! (stop !)) (look ! 28 refl)) (and-then ! (load ! (from ! (stop !)) (look ! 10 refl)) (no-more !)))) (λ u.
+            use1 W (later (some (λ (r : Bool). (‵ ftrue ⊛ ‵ (Boolean .own r (u ∷ []))) ⊛ raw (ensured 𝓤 H A test.ended (test.clauses 𝓤 H A mem run) tt (arg-test t) tt r)))) (id⊢ 𝓤 _) $ await ! tt $ pick ! (λ r.
+            split ! $ move ! (1 ∷ []) $ use1 W (raw (fact 𝓤 (r ≡ heldAt gs m ws n (k - suc t)))) ((said-test t) r) $ heard ! (r ≡ heldAt gs m ws n (k - suc t)) (λ e. split ! $ drop ! $
+            peeks ! Boolean (Is Boolean) (shows 𝓤 H A Boolean) r (u ∷ []) (λ is. drop ! $
+            land ! (from ! (stop !)) (store ! 11 refl (bool-lawful 𝓤 H A W .typed r _ is .0)) $
+            rewrite ! 11 (λ (z : Val). ‵ (fat fullShare tyBool l₁₀ 0 (z))) (ap only is ∙ ap vbool e) refl $ assigns ! (un ! (load ! (from ! (stop !)) (look ! 11 refl)) tt) (from ! (stop !)) (init ! 3 refl (tt, tt)) $
+            first ! $ branches ! (load ! (from ! (stop !)) (look ! 3 refl))
+            (λ hit. assigns ! (of-opd ! (false-lit !)) (from ! (stop !)) (init ! 31 refl (tt, tt)) $
+            returns-within ! Post refl (look ! 31 refl) $ forget ! 3 refl $ forget ! 5 refl $ forget ! 7 refl $ forget ! 9 refl $ forget ! 11 refl $ forget ! 15 refl $ forget ! 17 refl $ forget ! 19 refl $ forget ! 21 refl $ forget ! 23 refl $ forget ! 25 refl $ forget ! 27 refl $ forget ! 29 refl $ forget ! 31 refl $
+            ends false (at-bad gs m ws n t f (fails (heldAt gs m ws n (k - suc t)) hit)))
+            (λ miss. skips ! $ exec ! C Λ En step-on (Turned (suc t)) $
+            assigns-last ! (bin ! (load ! (from ! (stop !)) (look ! 19 refl)) (lit ! tt) (record { fits = next-fits l (f .0) k-fits })) (from ! (stop !)) (store ! 19 refl (tt, record { fits = next-fits l (f .0) k-fits })) $
+            forget ! 3 refl $ forget ! 5 refl $ forget ! 7 refl $ forget ! 9 refl $ forget ! 11 refl $ forget ! 15 refl $ forget ! 17 refl $
+            rewrite ! 19 (λ (z : ℕ). ‵ (fat fullShare word l₆ 0 (vint w64 z))) (next-is l (f .0) k-fits) refl $
+            use0 W (raw (fact 𝓤 (Facts gs m ws n t))) (factI 𝓤 (Facts gs m ws n t) (emp 𝓤) (at-good gs m ws n t f (not-false (heldAt gs m ws n (k - suc t)) (fails (not (heldAt gs m ws n (k - suc t))) miss)))) $
+            again ! _<_ Inv (suc t) t (lt-suc-self t)))))))))))))
 
       -- the MIR from the first statement, once the parameters are passed
       begins : Sq W (‵ (froom tyBool l₁₄ 0) ∷ ‵ (fdies tyBool l₁₄) ∷ ‵ (froom T′.mir l₁₃ 0) ∷ ‵ (fdies T′.mir l₁₃) ∷ ‵ (froom tyPtr l₁₂ 0) ∷ ‵ (fdies tyPtr l₁₂) ∷ ‵ (froom word l₁₁ 0) ∷ ‵ (fdies word l₁₁) ∷ ‵ (froom tyBool l₁₀ 0) ∷ ‵ (fdies tyBool l₁₀) ∷ ‵ (froom word l₉ 0) ∷ ‵ (fdies word l₉) ∷ ‵ (froom word l₈ 0) ∷ ‵ (fdies word l₈) ∷ ‵ (froom T′.mir l₇ 0) ∷ ‵ (fdies T′.mir l₇) ∷ ‵ (froom word l₆ 0) ∷ ‵ (fdies word l₆) ∷ ‵ (froom word l₅ 0) ∷ ‵ (fdies word l₅) ∷ ‵ (fat fullShare word l₄ 0 (vint w64 n)) ∷ ‵ (fdies word l₄) ∷ ‵ (fat fullShare slice-w l₃ 0 (val-ws)) ∷ ‵ (fdies slice-w l₃) ∷ ‵ (fat fullShare word l₂ 0 (vint w64 m)) ∷ ‵ (fdies word l₂) ∷ ‵ (fat fullShare slice-g l₁ 0 (val-gs)) ∷ ‵ (fdies slice-g l₁) ∷ ‵ (froom tyBool l₀ 0) ∷ ‵ (fdies tyBool l₀) ∷ (‵ (flft κ q) ⊛ ‵ ftrue) ∷ ‵ (owns (ShrSlice (named 0) κ G.the-row ∷ usize ∷ ShrSlice (named 0) κ T.the-row ∷ usize ∷ []) x at) ∷ []) (runs C Λ En mirᶠ.t-1 (atRet En Post))

@@ -1,0 +1,3 @@
+// One call of the ledger on values: what an attempt asks, and what it leaves of the registry and the row that it names (docs/RULES.md, "Ledger", "Orders").
+pub mod asked;
+pub mod call;
