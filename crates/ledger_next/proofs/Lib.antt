@@ -1,3 +1,4 @@
+pub mod EffectLaws
 pub mod KindLaws
 pub mod Left
 pub mod RequestLaws
