@@ -151,11 +151,12 @@ module _ (l : Ledger) (k : Keeps l) (i j : ℕ) (g : RegistryState) (w : Credent
       rw (f .registry, f .row)
       (revocation-is s g w p m e (ltb i (l .registryCount)) (ltb j (l .rowCount)) (well-held (p .registry) (f .registry)) (well-listed p (f .row)))
 
--- From what an attempt names and what the searches found for that, an attempt comes to what it comes to in the ledger.
-pub named-effect : (l : Ledger) (s : List ℕ) (i j : ℕ) (g : RegistryState) (w : CredentialState) → Found l (namedOf (requestOf s)) i g j w → effectNamed (sound l) s (namedOf (requestOf s)) i (l .registryCount) g j (l .rowCount) w ≡ effect l (requestOf s)
+-- From what it names and what the searches found for that, an attempt comes to what it comes to in the ledger. Of a ledger that breaks a reading rule
+-- nothing need be found.
+pub named-effect : (l : Ledger) (s : List ℕ) (i j : ℕ) (g : RegistryState) (w : CredentialState) → (sound l ≡ true → Found l (namedOf (requestOf s)) i g j w) → effectNamed (sound l) s (namedOf (requestOf s)) i (l .registryCount) g j (l .rowCount) w ≡ effect l (requestOf s)
 unfolding effect effectNamed askedAnswer firstOf acceptIf
 named-effect l s i j g w f = go (sound l) refl
   where
     go : (t : Bool) → sound l ≡ t → effectNamed t s (namedOf (requestOf s)) i (l .registryCount) g j (l .rowCount) w ≡ cond t (effectOf l (requestOf s)) (refuse Malformed)
-    go true h = kind-is l (parts l h) i j g w s (requestOf s) (request-from s) f
+    go true h = kind-is l (parts l h) i j g w s (requestOf s) (request-from s) (f h)
     go false h = refl

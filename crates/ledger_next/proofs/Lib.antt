@@ -1,4 +1,6 @@
 pub mod EffectLaws
+pub mod Fits
 pub mod KindLaws
 pub mod Left
 pub mod RequestLaws
+pub mod Stored
