@@ -2,7 +2,7 @@
 --     Found          what the searches found of a ledger, for what is named
 --     named-effect   the law
 use Prim.Native.Nat.{ℕ}
-use mathlib.Core.Path.{_≡_, refl, sym, ap, _∙_}
+use mathlib.Core.Path.{_≡_, refl, ap, _∙_}
 use mathlib.Core.Bool.{Bool, true, false, cond}
 use mathlib.Core.Option.{Option, none, some}
 use mathlib.Core.List.{List, [], _∷_}
@@ -24,8 +24,8 @@ use Rattle.registry_error.specs.declared.error.RegistryRejection.the-variants.{
 use Rattle.registry.specs.RegistryFolds as R
 use Rattle.registry_credential_state.specs.CredentialFolds as C
 use Rattle.registry_laws.specs.Pairs.{Pair, pairIn, keyOf}
-use Rattle.ledger_step.specs.Ledgers.{Held, Ledger, heldOf, idOf, eqPair, registryAt, rowAt, keepsLayout, sound}
-use Rattle.ledger_step.specs.Steps.{Request, revocationOf, eventRequest, decodedRequest, requestOf, Effect, afterFold, withRoom, inceptionEffect, rotationEffect, issueEffect, revocationEffect, effectOf, effect}
+use Rattle.ledger_step.specs.Ledgers.{Ledger, heldOf, idOf, eqPair, registryAt, rowAt, keepsLayout, sound}
+use Rattle.ledger_step.specs.Steps.{Request, revocationOf, eventRequest, decodedRequest, requestOf, Effect, afterFold, inceptionEffect, rotationEffect, issueEffect, revocationEffect, effectOf, effect}
 use Rattle.ledger_step.specs.Steps.Request.{nothing, inception, rotation, issue, revocation}
 use Rattle.ledger_step.specs.Steps.Effect.{refuse, newRegistry, setRegistry, newRow, setRow}
 use Rattle.ledger_step.proofs.TableLaws.{all-find}

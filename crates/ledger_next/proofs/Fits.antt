@@ -1,7 +1,7 @@
 -- Where the changes of an attempt go.
 --     Fits, effect-fits   a replacement is of what is named; what is new was not found, and there is room for it in the lent slices
 use Prim.Native.Nat.{ℕ, _<_}
-use mathlib.Core.Path.{_≡_, refl, sym, ap, _∙_}
+use mathlib.Core.Path.{_≡_, refl}
 use mathlib.Core.Bool.{Bool, true, false, cond}
 use mathlib.Core.Option.{Option, none, some}
 use native.Mathlib.Omega.{arith}

@@ -22,9 +22,9 @@ use Rattle.registry_state.specs.declared.state.RegistryState.{RegistryState}
 use Rattle.registry_state.specs.declared.state.CredentialState.{CredentialState}
 use Rattle.registry_error.specs.Answers.{accepts}
 use Rattle.registry_laws.specs.Pairs.{Pair, keyOf}
-use Rattle.ledger_step.specs.Tables.{find, put, place}
-use Rattle.ledger_step.specs.Ledgers.{Held, Ledger, heldOf, idOf, eqPair, registryAt, rowAt, lentLedger, sound}
-use Rattle.ledger_step.specs.Steps.{Effect, Step, requestOf, effect, answerOf, changed, heldNow, stepOf}
+use Rattle.ledger_step.specs.Tables.{put, place}
+use Rattle.ledger_step.specs.Ledgers.{Held, Ledger, heldOf, idOf, eqPair, lentLedger, sound}
+use Rattle.ledger_step.specs.Steps.{Effect, requestOf, effect, answerOf, changed, heldNow, stepOf}
 use Rattle.ledger_step.specs.Steps.Effect.{refuse, newRegistry, setRegistry, newRow, setRow}
 use Rattle.ledger_step.proofs.Rules.{Keeps, parts}
 use Rattle.ledger_registries.specs.Registries.{noHeld, blank, findRegistry}

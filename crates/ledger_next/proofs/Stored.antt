@@ -2,7 +2,7 @@
 --     place-absent             a key that is not found has its place behind the last element
 --     found-in, put-in         finding and replacing
 --     behind-last, behind-seen a new element behind the last, of a list and of its view
-use Prim.Native.Nat.{ℕ, suc, _+_, _<_, _≤_, min}
+use Prim.Native.Nat.{ℕ, suc, _+_, _<_, _≤_}
 use mathlib.Core.Path.{_≡_, refl, sym, ap, _∙_}
 use mathlib.Core.Bool.{Bool, true, false, cond}
 use mathlib.Core.Option.{none, some, Option·some-ne-none}
