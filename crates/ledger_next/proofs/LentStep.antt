@@ -1,8 +1,9 @@
 -- What storing the two states that are handed back makes of a lent ledger.
---     Call                         one call: the ledger's slices and counts, the attempt, what was read at the places found, and what is handed back
---     answered, stepped            the answer and the ledger are those of the ledger's step
---     refused-keeps                after a refusal both slices and both counts are as before
---     one-changes                  an accepted attempt leaves one of the slices as before
+--     Call                what was read at the places of what the attempt names, and what is handed back
+--     answered, stepped   the answer and the ledger are those of the ledger's step
+--     refused-keeps       after a refusal both slices and both counts are as before
+--     one-changes         an accepted attempt leaves one of the slices as before
+--     Steps, call-steps   all of this, from what the parts of a call ensure
 use Prim.Native.Nat.{ℕ, _+_, _<_, _≤_, min}
 use mathlib.Core.Path.{_≡_, refl, sym, ap, subst, _∙_}
 use mathlib.Core.Bool.{Bool, true, false, cond, true≢false, false≢true}
@@ -68,16 +69,16 @@ module _ (gs : List RegistryState) (m : ℕ) (ws : List CredentialState) (n : �
   abbrev q : Named
   q = namedOf (requestOf s)
 
-  abbrev pub registryPlace : ℕ
+  abbrev registryPlace : ℕ
   registryPlace = findRegistry gs m (q .registry)
 
-  abbrev pub rowPlace : ℕ
+  abbrev rowPlace : ℕ
   rowPlace = place keyOf eqPair noCredential (pairNamed q) (take n ws)
 
-  pub record Call (g : RegistryState) (w : CredentialState) (x : Next) : Type 0 where
-    pub registry : registryPlace < length gs → g ≡ getD gs registryPlace blank
-    pub row : w ≡ getD ws rowPlace noCredential
-    pub left : Leaves (effectNamed (sound l) s q registryPlace m g rowPlace n w) g m w n x
+  record Call (g : RegistryState) (w : CredentialState) (x : Next) : Type 0 where
+    registry : registryPlace < length gs → g ≡ getD gs registryPlace blank
+    row : w ≡ getD ws rowPlace noCredential
+    left : Leaves (effectNamed (sound l) s q registryPlace m g rowPlace n w) g m w n x
 
   module _ (g : RegistryState) (w : CredentialState) (x : Next) (c : Call g w x) where
     -- the slices afterwards
@@ -174,16 +175,16 @@ module _ (gs : List RegistryState) (m : ℕ) (ws : List CredentialState) (n : �
         ∙ ap (λ (z : Pair). put keyOf eqPair z v (take n ws)) f)
 
     -- The answer, and the ledger with both states stored, are those of the ledger's step.
-    pub answered : x .answer ≡ stepOf l s .answer
+    answered : x .answer ≡ stepOf l s .answer
     unfolding stepOf
     answered = answer-of e leaves
 
-    pub stepped : lentLedger gs′ (x .«registry_count») ws′ (x .«row_count») ≡ stepOf l s .ledger
+    stepped : lentLedger gs′ (x .«registry_count») ws′ (x .«row_count») ≡ stepOf l s .ledger
     unfolding stepOf
     stepped = change e leaves (effect-fits l (requestOf s))
 
     -- A refusal leaves both slices and both counts as they were.
-    pub refused-keeps : accepts (x .answer) ≡ false → (gs′ ≡ gs) × (x .«registry_count» ≡ m) × (ws′ ≡ ws) × (x .«row_count» ≡ n)
+    refused-keeps : accepts (x .answer) ≡ false → (gs′ ≡ gs) × (x .«registry_count» ≡ m) × (ws′ ≡ ws) × (x .«row_count» ≡ n)
     refused-keeps h = go e leaves (sym (ap accepts (answer-of e leaves)) ∙ h)
       where
         go : (z : Effect) → Leaves z g m w n x → accepts (answerOf z) ≡ false → (gs′ ≡ gs) × (x .«registry_count» ≡ m) × (ws′ ≡ ws) × (x .«row_count» ≡ n)
@@ -194,7 +195,7 @@ module _ (gs : List RegistryState) (m : ℕ) (ws : List CredentialState) (n : �
         go (setRow k v) p h = absurd (true≢false h)
 
     -- An accepted attempt changes one of the slices, and leaves the other as it was.
-    pub one-changes : accepts (x .answer) ≡ true → (gs′ ≡ gs) ⊎ (ws′ ≡ ws)
+    one-changes : accepts (x .answer) ≡ true → (gs′ ≡ gs) ⊎ (ws′ ≡ ws)
     one-changes h = go e leaves (sym (ap accepts (answer-of e leaves)) ∙ h)
       where
         go : (z : Effect) → Leaves z g m w n x → accepts (answerOf z) ≡ true → (gs′ ≡ gs) ⊎ (ws′ ≡ ws)
@@ -203,3 +204,35 @@ module _ (gs : List RegistryState) (m : ℕ) (ws : List CredentialState) (n : �
         go (setRegistry id g′) p h = inr (same-rows (row-as (p .1)))
         go (newRow v) p h = inl (same-registries (registry-as p))
         go (setRow k v) p h = inl (same-registries (registry-as p))
+
+-- What a call leaves where the registry and the row that are handed back are stored at i and j.
+pub record Steps (gs : List RegistryState) (m : ℕ) (ws : List CredentialState) (n : ℕ) (s : List ℕ) (i j : ℕ) (x : Next) : Type 0 where
+  pub answer : x .answer ≡ stepOf (lentLedger gs m ws n) s .answer
+  pub ledger : lentLedger (set gs i (x .registry)) (x .«registry_count») (set ws j (x .row)) (x .«row_count») ≡ stepOf (lentLedger gs m ws n) s .ledger
+  pub refused : accepts (x .answer) ≡ false → (set gs i (x .registry) ≡ gs) × (x .«registry_count» ≡ m) × (set ws j (x .row) ≡ ws) × (x .«row_count» ≡ n)
+  pub accepted : accepts (x .answer) ≡ true → (set gs i (x .registry) ≡ gs) ⊎ (set ws j (x .row) ≡ ws)
+
+-- The parts of a call, one after the other, come to the ledger's step.
+pub call-steps : (gs : List RegistryState) (m : ℕ) (ws : List CredentialState) (n : ℕ) (s : List ℕ) (ok : Bool) (q : Named) (i : ℕ) (g : RegistryState) (j : ℕ) (w : CredentialState) (x : Next)
+    → ok ≡ sound (lentLedger gs m ws n)
+    → q ≡ namedOf (requestOf s)
+    → i ≡ findRegistry gs m (q .registry)
+    → (i < length gs → g ≡ getD gs i blank)
+    → j ≡ place keyOf eqPair noCredential (pairNamed q) (take n ws)
+    → w ≡ getD ws j noCredential
+    → Leaves (effectNamed ok s q i m g j n w) g m w n x
+    → Steps gs m ws n s i j x
+call-steps gs m ws n s ok q i g j w x eo eq ei rg ej rr left =
+    let q0 = namedOf (requestOf s) in
+    let fi : i ≡ registryPlace gs m ws n s = ei ∙ ap (λ (z : Named). findRegistry gs m (z .registry)) eq in
+    let fj : j ≡ rowPlace gs m ws n s = ej ∙ ap (λ (z : Named). place keyOf eqPair noCredential (pairNamed z) (take n ws)) eq in
+    subst (λ (b : Bool). P b q i j) (sym eo) (subst (λ (z : Named). P (sound (lentLedger gs m ws n)) z i j) (sym eq) (subst (λ (z : ℕ). P (sound (lentLedger gs m ws n)) q0 z j) (sym fi) (subst (λ (z : ℕ). P (sound (lentLedger gs m ws n)) q0 (registryPlace gs m ws n s) z) (sym fj) here))) rg rr left
+  where
+    P : Bool → Named → ℕ → ℕ → Type 0
+    P b z i j = (i < length gs → g ≡ getD gs i blank) → w ≡ getD ws j noCredential → Leaves (effectNamed b s z i m g j n w) g m w n x → Steps gs m ws n s i j x
+
+    here : P (sound (lentLedger gs m ws n)) (namedOf (requestOf s)) (registryPlace gs m ws n s) (rowPlace gs m ws n s)
+    here a b d =
+        let c : Call gs m ws n s g w x = record { registry = a; row = b; left = d } in
+        record
+        { answer = answered gs m ws n s g w x c; ledger = stepped gs m ws n s g w x c; refused = refused-keeps gs m ws n s g w x c; accepted = one-changes gs m ws n s g w x c }
