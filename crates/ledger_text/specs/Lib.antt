@@ -1,4 +1,1 @@
-pub mod Frames
-pub mod Runs
 pub mod Lines
-pub mod Printed

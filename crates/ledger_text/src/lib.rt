@@ -1,4 +1,2 @@
-// The printed program's input and output (docs/RULES.md, "What the program prints"): how its input is cut in attempts, and the
-// bytes of its lines. The program itself only reads, calls these and the ledger, and writes.
-pub mod framing;
+// The lines that the printed program writes (docs/RULES.md, "What the program prints").
 pub mod text;

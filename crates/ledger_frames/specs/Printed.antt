@@ -2,9 +2,9 @@
 use Prim.Native.Nat.{ℕ, suc}
 use mathlib.Core.Bool.{cond}
 use mathlib.Core.List.{List, [], _∷_, _++_}
 use Rattle.ledger_text.specs.Lines.{lineBytes, lastLine, brokenLine}
-use Rattle.ledger_text.specs.Frames.{framesOf}
-use Rattle.ledger_text.specs.Runs.{Taken, Outcome}
+use Rattle.ledger_frames.specs.Frames.{framesOf}
+use Rattle.ledger_frames.specs.Runs.{Taken, Outcome}
 
 -- a ledger's answer to an attempt, the ledger after it, and how much a ledger holds
 pub record Answering (L : Type 0) : Type 0 where

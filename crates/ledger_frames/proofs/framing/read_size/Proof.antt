@@ -1,8 +1,8 @@
 use borrow.Author.Needs.{needs}
 use Rattle.laws.specs.Room.{room}
-use Rattle.ledger_text.specs.Runs.{sizeOf}
-use Rattle.ledger_text.proofs.framing.read_size.Statement.{statement}
-use Rattle.ledger_text.proofs.framing.read_size.Tie as tie
+use Rattle.ledger_frames.specs.Runs.{sizeOf}
+use Rattle.ledger_frames.proofs.framing.read_size.Statement.{statement}
+use Rattle.ledger_frames.proofs.framing.read_size.Tie as tie
 
 has-room-requires : tie.Need-has-room-requires
 has-room-requires c κs = search needs

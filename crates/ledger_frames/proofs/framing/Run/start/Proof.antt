@@ -1,7 +1,7 @@
 use borrow.Author.Needs.{needs}
-use Rattle.ledger_text.specs.Runs.{startOf}
-use Rattle.ledger_text.proofs.framing.Run.start.Statement.{statement}
-use Rattle.ledger_text.proofs.framing.Run.start.Tie as tie
+use Rattle.ledger_frames.specs.Runs.{startOf}
+use Rattle.ledger_frames.proofs.framing.Run.start.Statement.{statement}
+use Rattle.ledger_frames.proofs.framing.Run.start.Tie as tie
 
 read-size-requires : tie.Need-read-size-requires
 read-size-requires c κs = search needs

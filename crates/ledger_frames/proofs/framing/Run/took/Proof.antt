@@ -2,9 +2,9 @@ use borrow.Author.Tests.{ltb-true}
 use mathlib.Core.Bool.{_&&_}
 use lib.Dec.{ltb, leb}
 use Rattle.laws.proofs.Tests.{and-left}
-use Rattle.ledger_text.specs.Runs.{tookOf}
-use Rattle.ledger_text.proofs.framing.Run.took.Statement.{statement}
-use Rattle.ledger_text.proofs.framing.Run.took.Tie as tie
+use Rattle.ledger_frames.specs.Runs.{tookOf}
+use Rattle.ledger_frames.proofs.framing.Run.took.Statement.{statement}
+use Rattle.ledger_frames.proofs.framing.Run.took.Tie as tie
 
 sub-t8 : tie.Need-sub-t8
 sub-t8 c =

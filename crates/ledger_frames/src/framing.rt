@@ -5,7 +5,7 @@ use cesr::number::read_u16;
 ghost use mathlib.Core.Path.{_≡_};
 ghost use Prim.Native.Nat.{_-_, _≤_};
 ghost use lib.Dec.{ltb};
-ghost use Rattle.ledger_text.specs.Runs.{sizeOf, startOf, tookOf, finishOf};
+ghost use Rattle.ledger_frames.specs.Runs.{sizeOf, startOf, tookOf, finishOf};
 
 // A count or a length, from the bytes that were read for it; where two did not arrive it is 0 and not ok.
 pub struct Size {
