@@ -30,9 +30,10 @@ use Rattle.ledger_step.specs.Steps.Request.{nothing, inception, rotation, issue
 use Rattle.ledger_step.specs.Steps.Effect.{refuse, newRegistry, setRegistry, newRow, setRow}
 use Rattle.ledger_step.proofs.TableLaws.{all-find}
 use Rattle.ledger_step.proofs.Rules.{Keeps, parts}
-use Rattle.ledger_next.specs.declared.call.Named.{Named}
-use Rattle.ledger_next.specs.Names.{namedOf}
-use Rattle.ledger_next.specs.Effects.{askedAnswer, inceptionAnswer, rotationAnswer, issueAnswer, revocationAnswer, inceptionNamed, rotationNamed, issueNamed, revocationNamed, pairNamed, kindEffect, effectNamed}
+use Rattle.ledger_asked.specs.declared.call.Named.{Named}
+use Rattle.ledger_asked.specs.Names.{namedOf}
+use Rattle.ledger_asked.specs.Checks.{askedAnswer, inceptionAnswer, rotationAnswer, issueAnswer, revocationAnswer}
+use Rattle.ledger_next.specs.Effects.{inceptionNamed, rotationNamed, issueNamed, revocationNamed, pairNamed, kindEffect, effectNamed}
 
 -- ---- a request that was read: the refusal is one of those that are checked before every fold, or the message is the one that was read
 abbrev ReadFrom : List ℕ → Request → Type 0

@@ -21,8 +21,8 @@ use Rattle.ledger_step.specs.Steps.{Request, Effect, afterFold, withRoom, incep
 use Rattle.ledger_step.specs.Steps.Request.{nothing, inception, rotation, issue, revocation}
 use Rattle.ledger_step.specs.Steps.Effect.{refuse, newRegistry, setRegistry, newRow, setRow}
 use Rattle.ledger_step.proofs.Rules.{Keeps, parts}
-use Rattle.ledger_next.specs.declared.call.Named.{Named}
-use Rattle.ledger_next.specs.Names.{namedOf}
+use Rattle.ledger_asked.specs.declared.call.Named.{Named}
+use Rattle.ledger_asked.specs.Names.{namedOf}
 use Rattle.ledger_next.specs.Effects.{pairNamed}
 
 abbrev pub Fits : Ledger → Named → Effect → Type 0

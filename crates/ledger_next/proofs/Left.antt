@@ -27,7 +27,8 @@ use Rattle.ledger_step.specs.Ledgers.{heldOf}
 use Rattle.ledger_step.specs.Steps.{Effect, afterFold, heldNow}
 use Rattle.ledger_step.specs.Steps.Effect.{newRegistry, setRegistry, newRow, setRow}
 use Rattle.ledger_next.specs.declared.call.Next.{Next}
-use Rattle.ledger_next.specs.Effects.{inceptionAnswer, rotationAnswer, issueAnswer, revocationAnswer, inceptionNamed, rotationNamed, issueNamed, revocationNamed, Leaves}
+use Rattle.ledger_asked.specs.Checks.{inceptionAnswer, rotationAnswer, issueAnswer, revocationAnswer}
+use Rattle.ledger_next.specs.Effects.{inceptionNamed, rotationNamed, issueNamed, revocationNamed, Leaves}
 
 -- an answer that accepts
 accepted : (a : Answer) → accepts a ≡ true → a ≡ Accepted

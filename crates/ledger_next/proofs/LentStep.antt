@@ -30,9 +30,9 @@ use Rattle.ledger_step.specs.Steps.Effect.{refuse, newRegistry, setRegistry, ne
 use Rattle.ledger_step.proofs.Rules.{Keeps, parts}
 use Rattle.ledger_registries.specs.Registries.{noHeld, blank, findRegistry}
 use Rattle.ledger_registries.proofs.RegistryViews.{found-registry, stored-registry}
-use Rattle.ledger_next.specs.declared.call.Named.{Named}
+use Rattle.ledger_asked.specs.declared.call.Named.{Named}
 use Rattle.ledger_next.specs.declared.call.Next.{Next}
-use Rattle.ledger_next.specs.Names.{namedOf}
+use Rattle.ledger_asked.specs.Names.{namedOf}
 use Rattle.ledger_next.specs.Effects.{pairNamed, effectNamed, Leaves}
 use Rattle.ledger_next.proofs.EffectLaws.{Found, foundAt, named-effect}
 use Rattle.ledger_next.proofs.Fits.{Fits, effect-fits}

@@ -3,5 +3,4 @@ pub mod Fits
 pub mod KindLaws
 pub mod Left
 pub mod LentStep
-pub mod RequestLaws
 pub mod Stored

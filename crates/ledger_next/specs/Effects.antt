@@ -1,47 +1,23 @@
 -- What an attempt comes to, from what it names and what the ledger holds of that (docs/RULES.md, "Ledger", "Orders").
 use Prim.Native.Nat.{ℕ, _+_}
 use mathlib.Core.Path.{_≡_}
-use mathlib.Core.Bool.{Bool, not, cond}
-use mathlib.Core.List.{List, [], _∷_}
+use mathlib.Core.Bool.{Bool, cond}
+use mathlib.Core.List.{List}
 use lib.Dec.{eqb, ltb}
 use Rattle.cesr.specs.declared.primitive.Said.{Said}
 use Rattle.registry_state.specs.declared.state.RegistryState.{RegistryState}
 use Rattle.registry_state.specs.declared.state.CredentialState.{CredentialState}
-use Rattle.registry_error.specs.Answers.{acceptIf, firstOf}
 use Rattle.registry_error.specs.declared.error.Answer.{Answer}
 use Rattle.registry_error.specs.declared.error.Answer.the-variants.{Accepted, Rejected}
-use Rattle.registry_error.specs.declared.error.RegistryRejection.the-variants.{Malformed, MissingRegistry, DuplicateInception, AlreadyIssued, MissingCredentialState, InconsistentRegistry, NoRoom}
 use Rattle.registry.specs.RegistryFolds as R
 use Rattle.registry_credential_state.specs.CredentialFolds as C
 use Rattle.registry_laws.specs.Pairs.{Pair}
 use Rattle.ledger_step.specs.Ledgers.{heldOf}
 use Rattle.ledger_step.specs.Steps.{Effect, afterFold, heldNow}
 use Rattle.ledger_step.specs.Steps.Effect.{refuse, newRegistry, setRegistry, newRow, setRow}
-use Rattle.ledger_next.specs.declared.call.Named.{Named}
+use Rattle.ledger_asked.specs.declared.call.Named.{Named}
+use Rattle.ledger_asked.specs.Checks.{askedAnswer, inceptionAnswer, rotationAnswer, issueAnswer, revocationAnswer}
 use Rattle.ledger_next.specs.declared.call.Next.{Next}
-
--- before every fold: 1 of a ledger that breaks a reading rule, then 1 and 10 of an attempt that asks nothing
-unfoldable pub askedAnswer : Bool → ℕ → Answer
-askedAnswer ok refusal =
-    firstOf (acceptIf ok Malformed ∷ acceptIf (not (eqb refusal 1)) Malformed ∷ acceptIf (not (eqb refusal 10)) InconsistentRegistry ∷ [])
-
--- vcp: 3, the fold, 29; held is whether the registry is held, the number how many are
-unfoldable pub inceptionAnswer : Bool → Answer → ℕ → Answer
-inceptionAnswer held folded m = firstOf (acceptIf (not held) DuplicateInception ∷ folded ∷ acceptIf (ltb m 16) NoRoom ∷ [])
-
--- vrt: 2, the fold
-unfoldable pub rotationAnswer : Bool → Answer → Answer
-rotationAnswer held folded = firstOf (acceptIf held MissingRegistry ∷ folded ∷ [])
-
--- iss, bis: 2, 4, the fold, 29; listed is whether the key has a row, the number how many rows there are
-unfoldable pub issueAnswer : Bool → Bool → Answer → ℕ → Answer
-issueAnswer held listed folded n =
-    firstOf (acceptIf held MissingRegistry ∷ acceptIf (not listed) AlreadyIssued ∷ folded ∷ acceptIf (ltb n 256) NoRoom ∷ [])
-
--- rev, brv: 2, 5, the fold
-unfoldable pub revocationAnswer : Bool → Bool → Answer → Answer
-revocationAnswer held listed folded =
-    firstOf (acceptIf held MissingRegistry ∷ acceptIf listed MissingCredentialState ∷ folded ∷ [])
 
 -- the four folds, each behind what is checked before it
 abbrev pub inceptionNamed : List ℕ → Bool → ℕ → Effect

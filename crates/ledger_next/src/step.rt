@@ -1,11 +1,11 @@
 // What an attempt leaves of the registry and the row that it names (docs/RULES.md, "Ledger", "Next states"). Each function hands back what was handed in, but for the one state that an accepted attempt changes.
-use crate::answers::asked_answer;
-use crate::answers::inception_answer;
-use crate::answers::issue_answer;
-use crate::answers::revocation_answer;
-use crate::answers::rotation_answer;
-use crate::call::Named;
 use crate::call::Next;
+use ledger_asked::answers::asked_answer;
+use ledger_asked::answers::inception_answer;
+use ledger_asked::answers::issue_answer;
+use ledger_asked::answers::revocation_answer;
+use ledger_asked::answers::rotation_answer;
+use ledger_asked::call::Named;
 use registry::registry::incept_with_evidence;
 use registry::registry::ingest as ingest_registry;
 use registry_credential_state::credential_state::incept as incept_credential;

@@ -4,10 +4,10 @@ use registry_error::answer::or_else;
 use registry_error::error::Answer;
 use registry_error::error::RegistryRejection;
 ghost use mathlib.Core.Path.{_≡_};
-ghost use Rattle.ledger_next.specs.Effects.{askedAnswer, inceptionAnswer, rotationAnswer, issueAnswer, revocationAnswer};
+ghost use Rattle.ledger_asked.specs.Checks.{askedAnswer, inceptionAnswer, rotationAnswer, issueAnswer, revocationAnswer};
 
 // What is checked before every fold.
-pub(crate) fn asked_answer(ok: bool, refusal: u8) -> Answer
+pub fn asked_answer(ok: bool, refusal: u8) -> Answer
     ensures { λ r. ⌜ r ≡ askedAnswer ok refusal ⌝ }
 {
     let sound = accept_if(ok, RegistryRejection::Malformed);
@@ -16,7 +16,7 @@ pub(crate) fn asked_answer(ok: bool, refusal: u8) -> Answer
     or_else(sound, or_else(read, or_else(paired, Answer::Accepted)))
 }
 
-pub(crate) fn inception_answer(held: bool, folded: Answer, registry_count: usize) -> Answer
+pub fn inception_answer(held: bool, folded: Answer, registry_count: usize) -> Answer
     ensures { λ r. ⌜ r ≡ inceptionAnswer held folded «registry_count» ⌝ }
 {
     let absent = accept_if(!held, RegistryRejection::DuplicateInception);
@@ -24,14 +24,14 @@ pub(crate) fn inception_answer(held: bool, folded: Answer, registry_count: usize
     or_else(absent, or_else(folded, or_else(room, Answer::Accepted)))
 }
 
-pub(crate) fn rotation_answer(held: bool, folded: Answer) -> Answer
+pub fn rotation_answer(held: bool, folded: Answer) -> Answer
     ensures { λ r. ⌜ r ≡ rotationAnswer held folded ⌝ }
 {
     let present = accept_if(held, RegistryRejection::MissingRegistry);
     or_else(present, or_else(folded, Answer::Accepted))
 }
 
-pub(crate) fn issue_answer(held: bool, listed: bool, folded: Answer, row_count: usize) -> Answer
+pub fn issue_answer(held: bool, listed: bool, folded: Answer, row_count: usize) -> Answer
     ensures { λ r. ⌜ r ≡ issueAnswer held listed folded «row_count» ⌝ }
 {
     let present = accept_if(held, RegistryRejection::MissingRegistry);
@@ -41,7 +41,7 @@ pub(crate) fn issue_answer(held: bool, listed: bool, folded: Answer, row_count: 
     or_else(present, or_else(absent, late))
 }
 
-pub(crate) fn revocation_answer(held: bool, listed: bool, folded: Answer) -> Answer
+pub fn revocation_answer(held: bool, listed: bool, folded: Answer) -> Answer
     ensures { λ r. ⌜ r ≡ revocationAnswer held listed folded ⌝ }
 {
     let present = accept_if(held, RegistryRejection::MissingRegistry);

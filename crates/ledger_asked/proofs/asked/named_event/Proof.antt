@@ -1,6 +1,6 @@
 use borrow.Author.Needs.{needs}
-use Rattle.ledger_next.proofs.asked.named_event.Statement.{statement}
-use Rattle.ledger_next.proofs.asked.named_event.Tie as tie
+use Rattle.ledger_asked.proofs.asked.named_event.Statement.{statement}
+use Rattle.ledger_asked.proofs.asked.named_event.Tie as tie
 
 none-requires : tie.Need-none-requires
 none-requires c κs = search needs

@@ -1,8 +1,8 @@
 use Rattle.registry_error.specs.Answers.{firstOf}
-use Rattle.ledger_next.specs.Effects.{rotationAnswer}
+use Rattle.ledger_asked.specs.Checks.{rotationAnswer}
 use borrow.Author.Needs.{needs}
-use Rattle.ledger_next.proofs.answers.rotation_answer.Statement.{statement}
-use Rattle.ledger_next.proofs.answers.rotation_answer.Tie as tie
+use Rattle.ledger_asked.proofs.answers.rotation_answer.Statement.{statement}
+use Rattle.ledger_asked.proofs.answers.rotation_answer.Tie as tie
 
 accept-if-requires : tie.Need-accept-if-requires
 accept-if-requires c κs = search needs

@@ -1,6 +1,6 @@
 use borrow.Author.Needs.{needs}
-use Rattle.ledger_next.proofs.asked.named_in.Statement.{statement}
-use Rattle.ledger_next.proofs.asked.named_in.Tie as tie
+use Rattle.ledger_asked.proofs.asked.named_in.Statement.{statement}
+use Rattle.ledger_asked.proofs.asked.named_in.Tie as tie
 
 asks-nothing-requires : tie.Need-asks-nothing-requires
 asks-nothing-requires c κs = search needs

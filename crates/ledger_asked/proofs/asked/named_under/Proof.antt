@@ -1,6 +1,6 @@
 use borrow.Author.Needs.{needs}
-use Rattle.ledger_next.proofs.asked.named_under.Statement.{statement}
-use Rattle.ledger_next.proofs.asked.named_under.Tie as tie
+use Rattle.ledger_asked.proofs.asked.named_under.Statement.{statement}
+use Rattle.ledger_asked.proofs.asked.named_under.Tie as tie
 
 enum-told : tie.Need-enum-told
 enum-told c = search needs

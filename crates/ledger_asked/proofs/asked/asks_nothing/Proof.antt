@@ -1,6 +1,6 @@
 use borrow.Author.Needs.{needs}
-use Rattle.ledger_next.proofs.asked.asks_nothing.Statement.{statement}
-use Rattle.ledger_next.proofs.asked.asks_nothing.Tie as tie
+use Rattle.ledger_asked.proofs.asked.asks_nothing.Statement.{statement}
+use Rattle.ledger_asked.proofs.asked.asks_nothing.Tie as tie
 
 none-requires : tie.Need-none-requires
 none-requires c κs = search needs

@@ -14,7 +14,7 @@ ghost use Rattle.registry_wire.specs.Attempts.{Message};
 ghost use Rattle.registry_laws.specs.Pairs.{pairUnder, pairIn};
 ghost use Rattle.ledger_step.specs.Steps.{revocationOf, eventRequest, requestOf};
 ghost use Rattle.ledger_step.specs.Steps.Request.{nothing};
-ghost use Rattle.ledger_next.specs.Names.{namedOf};
+ghost use Rattle.ledger_asked.specs.Names.{namedOf};
 
 // An attempt that asks nothing gets a refusal.
 fn asks_nothing(refusal: RegistryRejection) -> Named

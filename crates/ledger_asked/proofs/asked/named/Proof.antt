@@ -1,11 +1,11 @@
 use denote.Ref.{now}
 use mathlib.Core.Path.{sym, ap, _∙_}
 use Rattle.registry_wire.specs.Attempts.{viewAttempt}
-use Rattle.ledger_next.specs.Names.{namedOf}
-use Rattle.ledger_next.proofs.RequestLaws.{request-decoded, request-malformed}
+use Rattle.ledger_asked.specs.Names.{namedOf}
+use Rattle.ledger_asked.proofs.RequestLaws.{request-decoded, request-malformed}
 use borrow.Author.Needs.{needs}
-use Rattle.ledger_next.proofs.asked.named.Statement.{statement}
-use Rattle.ledger_next.proofs.asked.named.Tie as tie
+use Rattle.ledger_asked.proofs.asked.named.Statement.{statement}
+use Rattle.ledger_asked.proofs.asked.named.Tie as tie
 
 decode-requires : tie.Need-decode-requires
 decode-requires c κs = search needs

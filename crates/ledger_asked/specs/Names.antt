@@ -3,7 +3,7 @@ use Rattle.registry_error.specs.Errors.{numberOf}
 use Rattle.registry_state.specs.States.{noSaid}
 use Rattle.ledger_step.specs.Steps.{Request}
 use Rattle.ledger_step.specs.Steps.Request.{nothing, inception, rotation, issue, revocation}
-use Rattle.ledger_next.specs.declared.call.Named.{Named}
+use Rattle.ledger_asked.specs.declared.call.Named.{Named}
 
 -- the refusal, or the kind of fold and what it is about: a blank said where there is no registry, or no credential
 abbrev pub namedOf : Request → Named

@@ -1,8 +1,8 @@
 use Rattle.registry_error.specs.Answers.{firstOf}
-use Rattle.ledger_next.specs.Effects.{revocationAnswer}
+use Rattle.ledger_asked.specs.Checks.{inceptionAnswer}
 use borrow.Author.Needs.{needs}
-use Rattle.ledger_next.proofs.answers.revocation_answer.Statement.{statement}
-use Rattle.ledger_next.proofs.answers.revocation_answer.Tie as tie
+use Rattle.ledger_asked.proofs.answers.inception_answer.Statement.{statement}
+use Rattle.ledger_asked.proofs.answers.inception_answer.Tie as tie
 
 accept-if-requires : tie.Need-accept-if-requires
 accept-if-requires c κs = search needs
@@ -20,11 +20,11 @@ or-else-requires-3 : tie.Need-or-else-requires-3
 or-else-requires-3 c κs = search needs
 
 returns : tie.Need-returns
-unfolding revocationAnswer firstOf
+unfolding inceptionAnswer firstOf
 returns c = rw (c .or-else3 .ensures, c .before .or-else2 .ensures, c .before .before .or-else .ensures, c .before .before .before .accept-if2 .ensures, c .before .before .before .before .accept-if .ensures)
 
-pub revocation-answer-spec : {M : Type 1} → statement M
-revocation-answer-spec =
+pub inception-answer-spec : {M : Type 1} → statement M
+inception-answer-spec =
     tie.close
     (tie.spec
     accept-if-requires
