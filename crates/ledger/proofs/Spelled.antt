@@ -3,6 +3,7 @@
 --     tells        whatever the ledger's relation relates to a ledger is that
 --     Parts        the relations of its fields;  parts, whole      the ledger's relation gives them, and they give it
 --     spelled-read, whole-read     the same of a ledger beside a number
+--     viewed       where both arrays are lent, the ledger that is handed in
 -- Assumes nothing.
 use mathlib.Core.Path.{_≡_, refl, sym, ap, _∙_, subst}
 use Prim.Native.Nat.{ℕ, _<_, _^_}
@@ -21,6 +22,8 @@ use Rattle.registry_state.proofs.state.RegistryState as G
 use Rattle.registry_state.proofs.state.RegistryState.Laws as G′
 use Rattle.registry_state.proofs.state.CredentialState as T
 use Rattle.registry_state.proofs.state.CredentialState.Laws as T′
+use Rattle.ledger_step.specs.Ledgers.{lentLedger}
+use Rattle.ledger.specs.LedgerValues.{viewLedger}
 use Rattle.ledger.specs.declared.ledger.Ledger.{Ledger}
 use Rattle.ledger.specs.declared.ledger.LedgerRead.{LedgerRead}
 use Rattle.ledger.proofs.ledger.Ledger as K
@@ -96,3 +99,7 @@ room-g gs is = subst (Room G.the-row) (sym (length-g gs is)) (lit< tt, lit< tt)
 
 pub room-w : (ws : List CredentialState) → IsW ws → Room T.the-row (length ws)
 room-w ws is = subst (Room T.the-row) (sym (length-w ws is)) (lit< tt, lit< tt)
+
+pub viewed : (d : Ledger) → lentLedger (d .registries) (d .«registry_count») (d .rows) (d .«row_count») ≡ viewLedger d
+unfolding viewLedger
+viewed d = refl

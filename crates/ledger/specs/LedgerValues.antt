@@ -1,5 +1,4 @@
 -- A ledger by value, and what an image leaves of it (docs/RULES.md, "Ledger", "Image").
-use mathlib.Core.List.{List}
 use Rattle.ledger_step.specs.Ledgers as L
 use Rattle.ledger_image.specs.Images.{ImageAnswer, ledgerOf}
 use Rattle.ledger_image.specs.Images.ImageAnswer.{refused, held}

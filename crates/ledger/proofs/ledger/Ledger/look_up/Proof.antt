@@ -58,7 +58,7 @@ use Rattle.ledger_lookup.specs.Lookups.{keyPair, viewLookedUp}
 use Rattle.ledger_lookup.specs.declared.lookup.LookedUp.{LookedUp as Answered}
 use Rattle.ledger_lookup.proofs.lookup.LookedUp as P
 use Rattle.ledger_lookup.proofs.lookup.LookedUp.Laws as P′
-use Rattle.ledger.specs.LedgerValues.{viewLedger}
+use Rattle.ledger.proofs.Spelled.{viewed}
 use Rattle.ledger_lookup.proofs.lookup.look_up as callee
 use Rattle.ledger_lookup.proofs.lookup.look_up.Symbol as callee-def
 use Rattle.ledger_lookup.proofs.lookup.look_up.Symbol.{name as #callee}
@@ -90,10 +90,6 @@ aref-w = tyRef erased imm (tyArray (pointee (T.the-row .written)) 256)
 
 abbrev slice-w : Ty
 slice-w = sliceTy (tyRef erased imm (pointee (T.the-row .written)))
-
-viewed : (ledger : Ledger) → lentLedger (ledger .registries) (ledger .«registry_count») (ledger .rows) (ledger .«row_count») ≡ viewLedger ledger
-unfolding viewLedger
-viewed ledger = refl
 
 module _ {M : Type 1} (𝓤 : URA M) (H : Heap 𝓤) (A : Atoms 𝓤) (mem : Memory → SProp 𝓤) (run : Routine → Fun 𝓤) where
   -- the contract that the proof cites
@@ -161,7 +157,8 @@ module _ {M : Type 1} (𝓤 : URA M) (H : Heap 𝓤) (A : Atoms 𝓤) (W : Given
   exits : (r : Answered) (is-r : Is P.the-row r (P′.lowered r ∷ [])) (e : viewLookedUp r ≡ lookUp (lentLedger gs m ws n) (keyPair registry credential)) → ent 𝓤 (emp 𝓤) (Post (P′.lowered r))
   exits r is-r e =
       qed W ([]) ∵
-      suffices ! _ (ends-at 𝓤 H A me.ended stayed (me.clauses 𝓤 H A mem run) W ((tt, tt, tt, x, at), tt) (P′.lowered r) r (tt, (tt, (tt, tt))) (tt, (tt, (tt, tt)))) $ says ! (e ∙ ap (λ z. lookUp z (keyPair registry credential)) (viewed ledger)) $
+      suffices ! _ (ends-at 𝓤 H A me.ended stayed (me.clauses 𝓤 H A mem run) W ((tt, tt, tt, x, at), tt) (P′.lowered r) r (tt, (tt, (tt, tt))) (tt, (tt, (tt, tt)))) $
+      says ! (e ∙ ap (λ z. lookUp z (keyPair registry credential)) (viewed ledger)) $
       nothing ! $ nothing ! $ owned ! S.the-row (Is S.the-row) ((LL.makes S.the-type S′.the-plain) 𝓤 H A) credential _ is-credential $ fjoin ! $ owned ! S.the-row (Is S.the-row) ((LL.makes S.the-type S′.the-plain) 𝓤 H A) registry _ is-registry $ fjoin ! $ owned ! K.the-row (Is K.the-row) ((LL.makes K.the-type K′.the-plain) 𝓤 H A) ledger _ is-ledger $ fjoin ! $ move ! (1 ∷ 0 ∷ []) $ frame ! $ frame ! $ owned ! P.the-row (Is P.the-row) ((LL.makes P.the-type P′.the-plain) 𝓤 H A) r _ is-r $ done !
 
   module _ (C : Calls 𝓤 H) (Λ : Loops 𝓤 H) (fm : FmC 𝓤 H (W .laws) C) (known : Triple 𝓤 (C #callee) (Callee 𝓤 H A mem run)) where

@@ -65,7 +65,7 @@ use Rattle.ledger.specs.declared.ledger.LedgerRead.{LedgerRead}
 use Rattle.ledger.proofs.ledger.LedgerRead as N
 use Rattle.ledger.proofs.ledger.LedgerRead.Laws as N′
 use Rattle.ledger.proofs.Spelled.{spelled-read, whole-read}
-use Rattle.ledger.proofs.ReadLedger.{answer-is, read-view, read-kept}
+use Rattle.ledger.proofs.ReadLedger.{next, answer-is, read-view, read-kept}
 use Rattle.ledger_read.proofs.read.read_image as callee
 use Rattle.ledger_read.proofs.read.read_image.Symbol as callee-def
 use Rattle.ledger_read.proofs.read.read_image.Symbol.{name as #callee}
@@ -103,13 +103,10 @@ slice-image = sliceTy (tyRef (named 0) imm (pointee (u8 .written)))
 
 -- ---- the ledger that is made of what comes back
 module _ (r : ImageRead) (gs : List RegistryState) (ws : List CredentialState) where
-  abbrev next : Ledger
-  next = record { registries = gs; «registry_count» = r .«registry_count»; rows = ws; «row_count» = r .«row_count» }
-
   abbrev result : LedgerRead
-  result = record { number = r .number; ledger = next }
+  result = record { number = r .number; ledger = next r gs ws }
 
-  next-parts : Is I.the-row r (I′.lowered r ∷ []) → IsG gs → IsW ws → Parts next
+  next-parts : Is I.the-row r (I′.lowered r ∷ []) → IsG gs → IsW ws → Parts (next r gs ws)
   next-parts is g w = let p = LL.owed I.the-type I′.the-laws r _ is in record { registries = g; registries-counted = p .1 .0 .1; rows = w; rows-counted = p .1 .1 .0 .1 }
 
   result-is : Is I.the-row r (I′.lowered r ∷ []) → IsG gs → IsW ws → Is N.the-row result (spelled-read result ∷ [])
@@ -197,7 +194,9 @@ module _ {M : Type 1} (𝓤 : URA M) (H : Heap 𝓤) (A : Atoms 𝓤) (W : Given
   exits : (r : ImageRead) (gs′ : List RegistryState) (ws′ : List CredentialState) (is-r : Is I.the-row r (I′.lowered r ∷ [])) (e : (r .number ≡ imageNumber (imageInto (length gs) (length ws) image)) × (countsOf r ≡ countsAfter (imageInto (length gs) (length ws) image) m n) × (ws′ ≡ rowsAfter (imageInto (length gs) (length ws) image) ws) × (RegistriesAfter (imageInto (length gs) (length ws) image) gs gs′)) (is-gs : IsG gs′) (is-ws : IsW ws′) → ent 𝓤 (⋆ 𝓤 H A (‵ (flft κ q) ∷ [])) (Post (spelled-read (result r gs′ ws′)))
   exits r gs′ ws′ is-r e is-gs is-ws =
       qed W (‵ (flft κ q) ∷ []) ∵
-      suffices ! _ (ends-at 𝓤 H A me.ended stayed (me.clauses 𝓤 H A mem run) W (((κ, tt), (q, tt), tt, x, at), tt) (spelled-read (result r gs′ ws′)) (result r gs′ ws′) (tt, (tt, tt)) (tt, (tt, tt))) $ suffices ! _ (assoc∗ 𝓤 (onExit 𝓤 H A me.ended stayed (κ, tt) (q, tt) at (spelled-read (result r gs′ ws′)) (result r gs′ ws′) x (tt, (tt, tt))) (fact 𝓤 (r .number ≡ imageNumber (imageOf image))) (sep 𝓤 (fact 𝓤 (viewLedger (next r gs′ ws′) ≡ ledgerAfter (imageOf image) (viewLedger ledger))) (fact 𝓤 (imageOf image ≡ refused → next r gs′ ws′ ≡ ledger)))) $
+      suffices ! _ (ends-at 𝓤 H A me.ended stayed (me.clauses 𝓤 H A mem run) W (((κ, tt), (q, tt), tt, x, at), tt) (spelled-read (result r gs′ ws′)) (result r gs′ ws′) (tt, (tt, tt)) (tt, (tt, tt))) $
+      -- the facts, the last first
+      suffices ! _ (assoc∗ 𝓤 (onExit 𝓤 H A me.ended stayed (κ, tt) (q, tt) at (spelled-read (result r gs′ ws′)) (result r gs′ ws′) x (tt, (tt, tt))) (fact 𝓤 (r .number ≡ imageNumber (imageOf image))) (sep 𝓤 (fact 𝓤 (viewLedger (next r gs′ ws′) ≡ ledgerAfter (imageOf image) (viewLedger ledger))) (fact 𝓤 (imageOf image ≡ refused → next r gs′ ws′ ≡ ledger)))) $
       suffices ! _ (assoc∗ 𝓤 (sep 𝓤 (onExit 𝓤 H A me.ended stayed (κ, tt) (q, tt) at (spelled-read (result r gs′ ws′)) (result r gs′ ws′) x (tt, (tt, tt))) (fact 𝓤 (r .number ≡ imageNumber (imageOf image)))) (fact 𝓤 (viewLedger (next r gs′ ws′) ≡ ledgerAfter (imageOf image) (viewLedger ledger))) (fact 𝓤 (imageOf image ≡ refused → next r gs′ ws′ ≡ ledger))) $
       says ! (read-kept ledger image long-g long-w r gs′ ws′ (into r gs′ ws′ e)) $ says ! (read-view ledger image long-g long-w r gs′ ws′ (into r gs′ ws′ e)) $ says ! (e .0 ∙ ap imageNumber (answer-is gs ws image long-g long-w)) $
       nothing ! $ move ! (1 ∷ 0 ∷ []) $ join ! $ nothing ! $ nothing ! $ fjoin ! $ owned ! K.the-row (Is K.the-row) ((LL.makes K.the-type K′.the-plain) 𝓤 H A) ledger _ is-ledger $ fjoin ! $ move ! (1 ∷ 0 ∷ []) $ frame ! $ frame ! $ owned ! N.the-row (Is N.the-row) ((LL.makes N.the-type N′.the-plain) 𝓤 H A) (result r gs′ ws′) _ (result-is r gs′ ws′ is-r is-gs is-ws) $ done !

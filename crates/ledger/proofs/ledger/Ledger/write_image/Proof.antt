@@ -58,7 +58,7 @@ use Rattle.ledger_write.specs.Writes.{viewWritten}
 use Rattle.ledger_write.specs.declared.write.Written.{Written as Answered}
 use Rattle.ledger_write.proofs.write.Written as P
 use Rattle.ledger_write.proofs.write.Written.Laws as P′
-use Rattle.ledger.specs.LedgerValues.{viewLedger}
+use Rattle.ledger.proofs.Spelled.{viewed}
 use Rattle.ledger_write.proofs.write.write_image as callee
 use Rattle.ledger_write.proofs.write.write_image.Symbol as callee-def
 use Rattle.ledger_write.proofs.write.write_image.Symbol.{name as #callee}
@@ -96,10 +96,6 @@ slice-out = sliceTy (tyRef (named 0) mut (pointee (u8 .written)))
 
 abbrev again-out : Ty
 again-out = tyRef erased mut (pointee (u8 .written))
-
-viewed : (ledger : Ledger) → lentLedger (ledger .registries) (ledger .«registry_count») (ledger .rows) (ledger .«row_count») ≡ viewLedger ledger
-unfolding viewLedger
-viewed ledger = refl
 
 module _ {M : Type 1} (𝓤 : URA M) (H : Heap 𝓤) (A : Atoms 𝓤) (mem : Memory → SProp 𝓤) (run : Routine → Fun 𝓤) where
   -- the contract that the proof cites
@@ -173,7 +169,8 @@ module _ {M : Type 1} (𝓤 : URA M) (H : Heap 𝓤) (A : Atoms 𝓤) (W : Given
   exits : (r : Answered) (out′ : List ℕ) (is-r : Is P.the-row r (P′.lowered r ∷ [])) (e : viewWritten r out′ ≡ writtenOf (lentLedger gs m ws n) out) (len-out : length out′ ≡ length out) → ent 𝓤 (⋆ 𝓤 H A (‵ (flft κ q) ∷ ‵ (finally u8 γ-out out′) ∷ [])) (Post (P′.lowered r))
   exits r out′ is-r e len-out =
       qed W (‵ (flft κ q) ∷ ‵ (finally u8 γ-out out′) ∷ []) ∵
-      suffices ! _ (ends-at 𝓤 H A me.ended stayed (me.clauses 𝓤 H A mem run) W (((κ, tt), (q, tt), tt, x, at), tt) (P′.lowered r) r (tt, (out′, tt)) (tt, (len-out, tt))) $ says ! (e ∙ ap (λ z. writtenOf z out) (viewed ledger)) $
+      suffices ! _ (ends-at 𝓤 H A me.ended stayed (me.clauses 𝓤 H A mem run) W (((κ, tt), (q, tt), tt, x, at), tt) (P′.lowered r) r (tt, (out′, tt)) (tt, (len-out, tt))) $
+      says ! (e ∙ ap (λ z. writtenOf z out) (viewed ledger)) $
       nothing ! $ move ! (1 ∷ 0 ∷ []) $ join ! $ nothing ! $ move ! (2 ∷ 0 ∷ []) $ fjoin ! $ owned ! K.the-row (Is K.the-row) ((LL.makes K.the-type K′.the-plain) 𝓤 H A) ledger _ is-ledger $ fjoin ! $ move ! (1 ∷ 0 ∷ []) $ frame ! $ frame ! $ owned ! P.the-row (Is P.the-row) ((LL.makes P.the-type P′.the-plain) 𝓤 H A) r _ is-r $ done !
 
   module _ (C : Calls 𝓤 H) (Λ : Loops 𝓤 H) (fm : FmC 𝓤 H (W .laws) C) (known : Triple 𝓤 (C #callee) (Callee 𝓤 H A mem run)) where
