@@ -1,0 +1,91 @@
+-- What is left of the registry and the row that an attempt names.
+--     inception-accepts ..                        an accepted answer: the fold accepts, and there is room
+--     leaves-all, leaves-change                   behind a check that refuses nothing changes, behind one that accepts what it stands before does
+--     new-registry, next-registry, new-row, next-row   what each fold leaves where it is accepted
+use Prim.Native.Nat.{ℕ, _+_, _<_}
+use mathlib.Core.Path.{_≡_, refl, sym, ap, _∙_}
+use mathlib.Core.Bool.{Bool, true, false, true≢false, false≢true}
+use mathlib.Core.List.{List}
+use borrow.Author.Tests.{ltb-true}
+use lib.Dec.{ltb}
+use Rattle.cesr.specs.declared.primitive.Said.{Said}
+use Rattle.registry_state.specs.States.{Registry, wellRegistry}
+use Rattle.registry_state.specs.declared.state.RegistryState.{RegistryState}
+use Rattle.registry_state.specs.declared.state.CredentialState.{CredentialState}
+use Rattle.registry_error.specs.Answers.{accepts}
+use Rattle.registry_error.specs.declared.error.Answer.{Answer}
+use Rattle.registry_error.specs.declared.error.Answer.the-variants.{Accepted, Rejected}
+use Rattle.registry_error.specs.declared.error.RegistryRejection.the-variants.{NoRoom}
+use Rattle.registry_error.proofs.AnswerLaws.{passed}
+use Rattle.registry.specs.RegistryFolds as R
+use Rattle.registry.specs.declared.registry.RegistryOutcome.{RegistryOutcome}
+use Rattle.registry_credential_state.specs.CredentialFolds as C
+use Rattle.registry_credential_state.specs.declared.credential_state.CredentialOutcome.{CredentialOutcome}
+use Rattle.registry_laws.specs.Pairs.{Pair}
+use Rattle.registry_laws.proofs.Chains.{all-accept}
+use Rattle.ledger_step.specs.Ledgers.{Held, heldOf}
+use Rattle.ledger_step.specs.Steps.{Effect, afterFold, heldNow}
+use Rattle.ledger_step.specs.Steps.Effect.{refuse, newRegistry, setRegistry, newRow, setRow}
+use Rattle.ledger_next.specs.declared.call.Next.{Next}
+use Rattle.ledger_next.specs.Effects.{inceptionAnswer, rotationAnswer, issueAnswer, revocationAnswer, inceptionNamed, rotationNamed, issueNamed, revocationNamed, Leaves}
+
+-- an answer that accepts
+accepted : (a : Answer) → accepts a ≡ true → a ≡ Accepted
+accepted Accepted h = refl
+accepted (Rejected r) h = absurd (false≢true h)
+
+pub inception-accepts : (held : Bool) (folded : Answer) (m : ℕ) → accepts (inceptionAnswer held folded m) ≡ true → (accepts folded ≡ true) × (m < 16)
+unfolding inceptionAnswer
+inception-accepts held folded m h = let t = all-accept _ h in (t .1 .0, ltb-true m 16 (passed (ltb m 16) NoRoom (t .1 .1 .0)))
+
+pub rotation-accepts : (held : Bool) (folded : Answer) → accepts (rotationAnswer held folded) ≡ true → accepts folded ≡ true
+unfolding rotationAnswer
+rotation-accepts held folded h = all-accept _ h .1 .0
+
+pub issue-accepts : (held listed : Bool) (folded : Answer) (n : ℕ) → accepts (issueAnswer held listed folded n) ≡ true → n < 256
+unfolding issueAnswer
+issue-accepts held listed folded n h = ltb-true n 256 (passed (ltb n 256) NoRoom (all-accept _ h .1 .1 .1 .0))
+
+-- a registry that keeps to its layout, as it is held
+held-now : (g : RegistryState) (h : Registry) → R.viewOutcome (record { answer = Accepted; state = g }) .state ≡ h → wellRegistry g ≡ true → heldOf g ≡ heldNow h
+held-now g h e w = λ i. record { well = w i; state = e i }
+
+module _ (g : RegistryState) (m : ℕ) (w : CredentialState) (n : ℕ) where
+  -- an answer with everything as it is
+  abbrev kept : Answer → Next
+  kept a = record { answer = a; registry = g; «registry_count» = m; row = w; «row_count» = n }
+
+  pub leaves-all : (a b : Answer) (e : Effect) → a ≡ b → accepts a ≡ false → Leaves (afterFold b e) g m w n (kept a)
+  leaves-all a Accepted e q h = absurd (true≢false (sym (ap accepts q) ∙ h))
+  leaves-all a (Rejected r) e q h = ap kept q
+
+  pub leaves-change : (b : Answer) (e : Effect) (x : Next) → accepts b ≡ true → Leaves e g m w n x → Leaves (afterFold b e) g m w n x
+  leaves-change Accepted e x h l = l
+  leaves-change (Rejected r) e x h l = absurd (false≢true h)
+
+  module _ (s : List ℕ) (held : Bool) (a : Answer) (h : accepts a ≡ true) where
+    pub new-registry : (o : RegistryOutcome) → R.viewOutcome o ≡ R.inceptOf s → (accepts (o .answer) ≡ true → wellRegistry (o .state) ≡ true) → a ≡ inceptionAnswer held (o .answer) m → Leaves (inceptionNamed s held m) g m w n (record { answer = a; registry = o .state; «registry_count» = m + 1; row = w; «row_count» = n })
+    new-registry o v within e =
+        let q : a ≡ inceptionAnswer held (R.inceptOf s .answer) m = e ∙ ap (λ (x : R.Outcome). inceptionAnswer held (x .answer) m) v in
+        let ok = inception-accepts held (o .answer) m (ap accepts (sym e) ∙ h) .0 in
+        leaves-change (inceptionAnswer held (R.inceptOf s .answer) m) (newRegistry (R.inceptOf s .state)) _ (ap accepts (sym q) ∙ h)
+        (held-now (o .state) (R.inceptOf s .state) (ap (λ (x : R.Outcome). x .state) v) (within ok), ap (λ (z : Answer). record { answer = z; registry = o .state; «registry_count» = m + 1; row = w; «row_count» = n }) (accepted a h))
+
+    pub next-registry : (id : Said) (o : RegistryOutcome) → R.viewOutcome o ≡ R.ingestOf g s → (accepts (o .answer) ≡ true → wellRegistry (o .state) ≡ true) → a ≡ rotationAnswer held (o .answer) → Leaves (rotationNamed s id held g) g m w n (record { answer = a; registry = o .state; «registry_count» = m; row = w; «row_count» = n })
+    next-registry id o v within e =
+        let q : a ≡ rotationAnswer held (R.ingestOf g s .answer) = e ∙ ap (λ (x : R.Outcome). rotationAnswer held (x .answer)) v in
+        let ok = rotation-accepts held (o .answer) (ap accepts (sym e) ∙ h) in
+        leaves-change (rotationAnswer held (R.ingestOf g s .answer)) (setRegistry id (R.ingestOf g s .state)) _ (ap accepts (sym q) ∙ h)
+        (held-now (o .state) (R.ingestOf g s .state) (ap (λ (x : R.Outcome). x .state) v) (within ok), ap (λ (z : Answer). record { answer = z; registry = o .state; «registry_count» = m; row = w; «row_count» = n }) (accepted a h))
+
+    pub new-row : (listed : Bool) (o : CredentialOutcome) → C.viewOutcome o ≡ C.inceptOf g s → a ≡ issueAnswer held listed (o .answer) n → Leaves (issueNamed s held g listed n) g m w n (record { answer = a; registry = g; «registry_count» = m; row = o .state; «row_count» = n + 1 })
+    new-row listed o v e =
+        let q : a ≡ issueAnswer held listed (C.inceptOf g s .answer) n = e ∙ ap (λ (x : C.Outcome). issueAnswer held listed (x .answer) n) v in
+        leaves-change (issueAnswer held listed (C.inceptOf g s .answer) n) (newRow (C.inceptOf g s .state)) _ (ap accepts (sym q) ∙ h)
+        (λ i. record { answer = accepted a h i; registry = g; «registry_count» = m; row = v i .state; «row_count» = n + 1 })
+
+    pub next-row : (k : Pair) (listed : Bool) (o : CredentialOutcome) → C.viewOutcome o ≡ C.ingestOf g w s → a ≡ revocationAnswer held listed (o .answer) → Leaves (revocationNamed s k held g listed w) g m w n (record { answer = a; registry = g; «registry_count» = m; row = o .state; «row_count» = n })
+    next-row k listed o v e =
+        let q : a ≡ revocationAnswer held listed (C.ingestOf g w s .answer) = e ∙ ap (λ (x : C.Outcome). revocationAnswer held listed (x .answer)) v in
+        leaves-change (revocationAnswer held listed (C.ingestOf g w s .answer)) (setRow k (C.ingestOf g w s .state)) _ (ap accepts (sym q) ∙ h)
+        (λ i. record { answer = accepted a h i; registry = g; «registry_count» = m; row = v i .state; «row_count» = n })

@@ -1,0 +1,84 @@
+-- What an attempt comes to, from what it names and what the ledger holds of that (docs/RULES.md, "Ledger", "Orders").
+use Prim.Native.Nat.{ℕ, _+_}
+use mathlib.Core.Path.{_≡_}
+use mathlib.Core.Bool.{Bool, not, cond}
+use mathlib.Core.List.{List, [], _∷_}
+use lib.Dec.{eqb, ltb}
+use Rattle.cesr.specs.declared.primitive.Said.{Said}
+use Rattle.registry_state.specs.declared.state.RegistryState.{RegistryState}
+use Rattle.registry_state.specs.declared.state.CredentialState.{CredentialState}
+use Rattle.registry_error.specs.Answers.{acceptIf, firstOf}
+use Rattle.registry_error.specs.declared.error.Answer.{Answer}
+use Rattle.registry_error.specs.declared.error.Answer.the-variants.{Accepted, Rejected}
+use Rattle.registry_error.specs.declared.error.RegistryRejection.the-variants.{Malformed, MissingRegistry, DuplicateInception, AlreadyIssued, MissingCredentialState, InconsistentRegistry, NoRoom}
+use Rattle.registry.specs.RegistryFolds as R
+use Rattle.registry_credential_state.specs.CredentialFolds as C
+use Rattle.registry_laws.specs.Pairs.{Pair}
+use Rattle.ledger_step.specs.Ledgers.{heldOf}
+use Rattle.ledger_step.specs.Steps.{Effect, afterFold, heldNow}
+use Rattle.ledger_step.specs.Steps.Effect.{refuse, newRegistry, setRegistry, newRow, setRow}
+use Rattle.ledger_next.specs.declared.call.Named.{Named}
+use Rattle.ledger_next.specs.declared.call.Next.{Next}
+
+-- before every fold: 1 of a ledger that breaks a reading rule, then 1 and 10 of an attempt that asks nothing
+unfoldable pub askedAnswer : Bool → ℕ → Answer
+askedAnswer ok refusal =
+    firstOf (acceptIf ok Malformed ∷ acceptIf (not (eqb refusal 1)) Malformed ∷ acceptIf (not (eqb refusal 10)) InconsistentRegistry ∷ [])
+
+-- vcp: 3, the fold, 29; held is whether the registry is held, the number how many are
+unfoldable pub inceptionAnswer : Bool → Answer → ℕ → Answer
+inceptionAnswer held folded m = firstOf (acceptIf (not held) DuplicateInception ∷ folded ∷ acceptIf (ltb m 16) NoRoom ∷ [])
+
+-- vrt: 2, the fold
+unfoldable pub rotationAnswer : Bool → Answer → Answer
+rotationAnswer held folded = firstOf (acceptIf held MissingRegistry ∷ folded ∷ [])
+
+-- iss, bis: 2, 4, the fold, 29; listed is whether the key has a row, the number how many rows there are
+unfoldable pub issueAnswer : Bool → Bool → Answer → ℕ → Answer
+issueAnswer held listed folded n =
+    firstOf (acceptIf held MissingRegistry ∷ acceptIf (not listed) AlreadyIssued ∷ folded ∷ acceptIf (ltb n 256) NoRoom ∷ [])
+
+-- rev, brv: 2, 5, the fold
+unfoldable pub revocationAnswer : Bool → Bool → Answer → Answer
+revocationAnswer held listed folded =
+    firstOf (acceptIf held MissingRegistry ∷ acceptIf listed MissingCredentialState ∷ folded ∷ [])
+
+-- the four folds, each behind what is checked before it
+abbrev pub inceptionNamed : List ℕ → Bool → ℕ → Effect
+inceptionNamed s held m = afterFold (inceptionAnswer held (R.inceptOf s .answer) m) (newRegistry (R.inceptOf s .state))
+
+abbrev pub rotationNamed : List ℕ → Said → Bool → RegistryState → Effect
+rotationNamed s id held g = afterFold (rotationAnswer held (R.ingestOf g s .answer)) (setRegistry id (R.ingestOf g s .state))
+
+abbrev pub issueNamed : List ℕ → Bool → RegistryState → Bool → ℕ → Effect
+issueNamed s held g listed n = afterFold (issueAnswer held listed (C.inceptOf g s .answer) n) (newRow (C.inceptOf g s .state))
+
+abbrev pub revocationNamed : List ℕ → Pair → Bool → RegistryState → Bool → CredentialState → Effect
+revocationNamed s k held g listed w = afterFold (revocationAnswer held listed (C.ingestOf g w s .answer)) (setRow k (C.ingestOf g w s .state))
+
+-- the pair that is named
+abbrev pub pairNamed : Named → Pair
+pairNamed q = record { registry = q .registry; credential = q .credential }
+
+-- By the kind of fold that is asked for. The searches for the registry and the row ended at i and j, before the counts m and n where they found
+-- them, and g and w stand there.
+unfoldable pub kindEffect : List ℕ → Named → ℕ → ℕ → RegistryState → ℕ → ℕ → CredentialState → Effect
+kindEffect s q i m g j n w =
+    cond (eqb (q .kind) 1) (inceptionNamed s (ltb i m) m)
+    (cond (eqb (q .kind) 2) (rotationNamed s (q .registry) (ltb i m) g)
+    (cond (eqb (q .kind) 3) (issueNamed s (ltb i m) g (ltb j n) n)
+    (revocationNamed s (pairNamed q) (ltb i m) g (ltb j n) w)))
+
+unfoldable pub effectNamed : Bool → List ℕ → Named → ℕ → ℕ → RegistryState → ℕ → ℕ → CredentialState → Effect
+effectNamed ok s q i m g j n w = afterFold (askedAnswer ok (q .refusal)) (kindEffect s q i m g j n w)
+
+-- What is left where that is done, of a registry and a row with their counts: a refusal leaves all as it is; else one state is the next one, and
+-- all else is as it is. A new state counts.
+abbrev pub Leaves : Effect → RegistryState → ℕ → CredentialState → ℕ → Next → Type 0
+Leaves (refuse r) g m w n x = x ≡ record { answer = Rejected r; registry = g; «registry_count» = m; row = w; «row_count» = n }
+Leaves (newRegistry h) g m w n x =
+    (heldOf (x .registry) ≡ heldNow h) × (x ≡ record { answer = Accepted; registry = x .registry; «registry_count» = m + 1; row = w; «row_count» = n })
+Leaves (setRegistry id h) g m w n x =
+    (heldOf (x .registry) ≡ heldNow h) × (x ≡ record { answer = Accepted; registry = x .registry; «registry_count» = m; row = w; «row_count» = n })
+Leaves (newRow v) g m w n x = x ≡ record { answer = Accepted; registry = g; «registry_count» = m; row = v; «row_count» = n + 1 }
+Leaves (setRow k v) g m w n x = x ≡ record { answer = Accepted; registry = g; «registry_count» = m; row = v; «row_count» = n }

@@ -1,0 +1,225 @@
+// What an attempt leaves of the registry and the row that it names (docs/RULES.md, "Ledger", "Next states"). Each function hands back what was handed in, but for the one state that an accepted attempt changes.
+use crate::answers::asked_answer;
+use crate::answers::inception_answer;
+use crate::answers::issue_answer;
+use crate::answers::revocation_answer;
+use crate::answers::rotation_answer;
+use crate::call::Named;
+use crate::call::Next;
+use registry::registry::incept_with_evidence;
+use registry::registry::ingest as ingest_registry;
+use registry_credential_state::credential_state::incept as incept_credential;
+use registry_credential_state::credential_state::ingest as ingest_credential;
+use registry_error::answer::accepts;
+use registry_state::state::CredentialState;
+use registry_state::state::RegistryState;
+ghost use mathlib.Core.Path.{_≡_};
+ghost use lib.Dec.{ltb};
+ghost use Rattle.cesr.specs.declared.primitive.Said.{Said};
+ghost use Rattle.registry_laws.specs.Pairs.{Pair};
+ghost use Rattle.ledger_next.specs.Effects.{inceptionNamed, rotationNamed, issueNamed, revocationNamed, kindEffect, effectNamed, Leaves};
+
+// Whether a place is before the count.
+fn is_below(at: usize, count: usize) -> bool
+    ensures { λ r. ⌜ r ≡ ltb at count ⌝ }
+{
+    at < count
+}
+
+// A vcp: a new registry behind the last.
+fn incept_next(
+    s: &[u8],
+    held: bool,
+    registry: RegistryState,
+    registry_count: usize,
+    row: CredentialState,
+    row_count: usize,
+) -> Next
+    ensures { λ r. ⌜ Leaves (inceptionNamed (now (s .entry)) held «registry_count») registry «registry_count» row «row_count» r ⌝ }
+{
+    let fold = incept_with_evidence(s);
+    let folded = fold.answer;
+    let state = fold.state;
+    let answer = inception_answer(held, folded, registry_count);
+    if accepts(answer) {
+        return Next {
+            answer,
+            registry: state,
+            registry_count: registry_count + 1,
+            row,
+            row_count,
+        };
+    }
+    Next {
+        answer,
+        registry,
+        registry_count,
+        row,
+        row_count,
+    }
+}
+
+// A vrt: the registry's next state.
+fn rotate_next(
+    s: &[u8],
+    held: bool,
+    registry: RegistryState,
+    registry_count: usize,
+    row: CredentialState,
+    row_count: usize,
+) -> Next
+    ensures { λ r. ⌜ ((id : Said) → Leaves (rotationNamed (now (s .entry)) id held registry) registry «registry_count» row «row_count» r) ⌝ }
+{
+    let fold = ingest_registry(registry, s);
+    let folded = fold.answer;
+    let state = fold.state;
+    let answer = rotation_answer(held, folded);
+    if accepts(answer) {
+        return Next {
+            answer,
+            registry: state,
+            registry_count,
+            row,
+            row_count,
+        };
+    }
+    Next {
+        answer,
+        registry,
+        registry_count,
+        row,
+        row_count,
+    }
+}
+
+// An iss or bis: a new row behind the last.
+fn issue_next(
+    s: &[u8],
+    held: bool,
+    registry: RegistryState,
+    registry_count: usize,
+    listed: bool,
+    row: CredentialState,
+    row_count: usize,
+) -> Next
+    ensures { λ r. ⌜ Leaves (issueNamed (now (s .entry)) held registry listed «row_count») registry «registry_count» row «row_count» r ⌝ }
+{
+    let fold = incept_credential(registry, s);
+    let folded = fold.answer;
+    let state = fold.state;
+    let answer = issue_answer(held, listed, folded, row_count);
+    if accepts(answer) {
+        return Next {
+            answer,
+            registry,
+            registry_count,
+            row: state,
+            row_count: row_count + 1,
+        };
+    }
+    Next {
+        answer,
+        registry,
+        registry_count,
+        row,
+        row_count,
+    }
+}
+
+// A rev or brv: the row's next state.
+fn revoke_next(
+    s: &[u8],
+    held: bool,
+    registry: RegistryState,
+    registry_count: usize,
+    listed: bool,
+    row: CredentialState,
+    row_count: usize,
+) -> Next
+    ensures { λ r. ⌜ ((k : Pair) → Leaves (revocationNamed (now (s .entry)) k held registry listed row) registry «registry_count» row «row_count» r) ⌝ }
+{
+    let fold = ingest_credential(registry, row, s);
+    let folded = fold.answer;
+    let state = fold.state;
+    let answer = revocation_answer(held, listed, folded);
+    if accepts(answer) {
+        return Next {
+            answer,
+            registry,
+            registry_count,
+            row: state,
+            row_count,
+        };
+    }
+    Next {
+        answer,
+        registry,
+        registry_count,
+        row,
+        row_count,
+    }
+}
+
+// By the kind of fold that is asked for.
+fn kind_next(
+    s: &[u8],
+    named: Named,
+    registry_at: usize,
+    registry_count: usize,
+    registry: RegistryState,
+    row_at: usize,
+    row_count: usize,
+    row: CredentialState,
+) -> Next
+    ensures { λ r. ⌜ Leaves (kindEffect (now (s .entry)) named «registry_at» «registry_count» registry «row_at» «row_count» row) registry «registry_count» row «row_count» r ⌝ }
+{
+    let held = is_below(registry_at, registry_count);
+    let listed = is_below(row_at, row_count);
+    let kind = named.kind;
+    if kind == 1 {
+        return incept_next(s, held, registry, registry_count, row, row_count);
+    }
+    if kind == 2 {
+        return rotate_next(s, held, registry, registry_count, row, row_count);
+    }
+    if kind == 3 {
+        return issue_next(s, held, registry, registry_count, listed, row, row_count);
+    }
+    revoke_next(s, held, registry, registry_count, listed, row, row_count)
+}
+
+// What an attempt comes to. The searches for the registry and the row that it names ended at two places, before the counts where they found them, and the states there are handed in.
+pub fn next(
+    ok: bool,
+    s: &[u8],
+    named: Named,
+    registry_at: usize,
+    registry_count: usize,
+    registry: RegistryState,
+    row_at: usize,
+    row_count: usize,
+    row: CredentialState,
+) -> Next
+    ensures { λ r. ⌜ Leaves (effectNamed ok (now (s .entry)) named «registry_at» «registry_count» registry «row_at» «row_count» row) registry «registry_count» row «row_count» r ⌝ }
+{
+    let answer = asked_answer(ok, named.refusal);
+    if accepts(answer) {
+        return kind_next(
+            s,
+            named,
+            registry_at,
+            registry_count,
+            registry,
+            row_at,
+            row_count,
+            row,
+        );
+    }
+    Next {
+        answer,
+        registry,
+        registry_count,
+        row,
+        row_count,
+    }
+}
