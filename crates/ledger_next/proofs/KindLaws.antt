@@ -41,6 +41,6 @@ module _ (ok : Bool) (s : List ℕ) (q : Named) (i m : ℕ) (g : RegistryState) 
   unfolding effectNamed
   by-kind x h l = leaves-change g m w n (askedAnswer ok (q .refusal)) (kindEffect s q i m g j n w) x (ap accepts (sym e) ∙ h) l
 
-  pub by-nothing : accepts a ≡ false → Leaves (effectNamed ok s q i m g j n w) g m w n (record { answer = a; registry = g; «registry_count» = m; row = w; «row_count» = n })
+  pub by-nothing : (x : Next) → x ≡ record { answer = a; registry = g; «registry_count» = m; row = w; «row_count» = n } → accepts a ≡ false → Leaves (effectNamed ok s q i m g j n w) g m w n x
   unfolding effectNamed
-  by-nothing h = leaves-all g m w n a (askedAnswer ok (q .refusal)) (kindEffect s q i m g j n w) e h
+  by-nothing x p h = leaves-all g m w n a (askedAnswer ok (q .refusal)) (kindEffect s q i m g j n w) x p e h

@@ -1,7 +1,7 @@
 -- What is left of the registry and the row that an attempt names.
---     inception-accepts ..                        an accepted answer: the fold accepts, and there is room
---     leaves-all, leaves-change                   behind a check that refuses nothing changes, behind one that accepts what it stands before does
---     new-registry, next-registry, new-row, next-row   what each fold leaves where it is accepted
+--     inception-accepts, rotation-accepts, issue-accepts   where the checks accept, the fold does, and there is room
+--     leaves-all, leaves-change                            behind checks that refuse nothing changes, else what they stand before
+--     new-registry, next-registry, new-row, next-row       what each fold leaves where it is accepted
 use Prim.Native.Nat.{ℕ, _+_, _<_}
 use mathlib.Core.Path.{_≡_, refl, sym, ap, _∙_}
 use mathlib.Core.Bool.{Bool, true, false, true≢false, false≢true}
@@ -9,7 +9,7 @@ use mathlib.Core.List.{List}
 use borrow.Author.Tests.{ltb-true}
 use lib.Dec.{ltb}
 use Rattle.cesr.specs.declared.primitive.Said.{Said}
-use Rattle.registry_state.specs.States.{Registry, wellRegistry}
+use Rattle.registry_state.specs.States.{Registry, viewRegistry, wellRegistry}
 use Rattle.registry_state.specs.declared.state.RegistryState.{RegistryState}
 use Rattle.registry_state.specs.declared.state.CredentialState.{CredentialState}
 use Rattle.registry_error.specs.Answers.{accepts}
@@ -23,9 +23,9 @@ use Rattle.registry_credential_state.specs.CredentialFolds as C
 use Rattle.registry_credential_state.specs.declared.credential_state.CredentialOutcome.{CredentialOutcome}
 use Rattle.registry_laws.specs.Pairs.{Pair}
 use Rattle.registry_laws.proofs.Chains.{all-accept}
-use Rattle.ledger_step.specs.Ledgers.{Held, heldOf}
+use Rattle.ledger_step.specs.Ledgers.{heldOf}
 use Rattle.ledger_step.specs.Steps.{Effect, afterFold, heldNow}
-use Rattle.ledger_step.specs.Steps.Effect.{refuse, newRegistry, setRegistry, newRow, setRow}
+use Rattle.ledger_step.specs.Steps.Effect.{newRegistry, setRegistry, newRow, setRow}
 use Rattle.ledger_next.specs.declared.call.Next.{Next}
 use Rattle.ledger_next.specs.Effects.{inceptionAnswer, rotationAnswer, issueAnswer, revocationAnswer, inceptionNamed, rotationNamed, issueNamed, revocationNamed, Leaves}
 
@@ -47,7 +47,7 @@ unfolding issueAnswer
 issue-accepts held listed folded n h = ltb-true n 256 (passed (ltb n 256) NoRoom (all-accept _ h .1 .1 .1 .0))
 
 -- a registry that keeps to its layout, as it is held
-held-now : (g : RegistryState) (h : Registry) → R.viewOutcome (record { answer = Accepted; state = g }) .state ≡ h → wellRegistry g ≡ true → heldOf g ≡ heldNow h
+held-now : (g : RegistryState) (h : Registry) → viewRegistry g ≡ h → wellRegistry g ≡ true → heldOf g ≡ heldNow h
 held-now g h e w = λ i. record { well = w i; state = e i }
 
 module _ (g : RegistryState) (m : ℕ) (w : CredentialState) (n : ℕ) where
@@ -55,9 +55,9 @@ module _ (g : RegistryState) (m : ℕ) (w : CredentialState) (n : ℕ) where
   abbrev kept : Answer → Next
   kept a = record { answer = a; registry = g; «registry_count» = m; row = w; «row_count» = n }
 
-  pub leaves-all : (a b : Answer) (e : Effect) → a ≡ b → accepts a ≡ false → Leaves (afterFold b e) g m w n (kept a)
-  leaves-all a Accepted e q h = absurd (true≢false (sym (ap accepts q) ∙ h))
-  leaves-all a (Rejected r) e q h = ap kept q
+  pub leaves-all : (a b : Answer) (e : Effect) (x : Next) → x ≡ kept a → a ≡ b → accepts a ≡ false → Leaves (afterFold b e) g m w n x
+  leaves-all a Accepted e x p q h = absurd (true≢false (sym (ap accepts q) ∙ h))
+  leaves-all a (Rejected r) e x p q h = p ∙ ap kept q
 
   pub leaves-change : (b : Answer) (e : Effect) (x : Next) → accepts b ≡ true → Leaves e g m w n x → Leaves (afterFold b e) g m w n x
   leaves-change Accepted e x h l = l

@@ -1,3 +1,7 @@
+pub mod EffectLaws
+pub mod Fits
 pub mod KindLaws
 pub mod Left
+pub mod LentStep
 pub mod RequestLaws
+pub mod Stored

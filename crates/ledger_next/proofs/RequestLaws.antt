@@ -6,11 +6,11 @@ use mathlib.Core.Path.{_≡_, sym, ap, _∙_}
 use mathlib.Core.Bool.{true, false, cond}
 use mathlib.Core.List.{List}
 use Rattle.events_tel.specs.TelEvents.{viewEvent}
-use Rattle.registry_wire.specs.Attempts.{Decoded, decodeOf, viewAttempt, viewDecoded}
+use Rattle.registry_wire.specs.Attempts.{decodeOf, viewAttempt, viewDecoded}
 use Rattle.registry_wire.specs.Attempts.Decoded.{malformed, decoded}
 use Rattle.registry_wire.specs.declared.attempt.DecodedAttempt.{DecodedAttempt}
 use Rattle.registry_error.specs.declared.error.RegistryRejection.the-variants.{Malformed}
-use Rattle.ledger_step.specs.Steps.{Request, eventRequest, decodedRequest, requestOf}
+use Rattle.ledger_step.specs.Steps.{eventRequest, decodedRequest, requestOf}
 use Rattle.ledger_step.specs.Steps.Request.{nothing}
 
 module _ (s : List ℕ) (r : DecodedAttempt) (e : viewDecoded s r ≡ decodeOf s) where

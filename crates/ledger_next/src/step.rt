@@ -11,6 +11,7 @@ use registry::registry::ingest as ingest_registry;
 use registry_credential_state::credential_state::incept as incept_credential;
 use registry_credential_state::credential_state::ingest as ingest_credential;
 use registry_error::answer::accepts;
+use registry_error::error::Answer;
 use registry_state::state::CredentialState;
 use registry_state::state::RegistryState;
 ghost use mathlib.Core.Path.{_≡_};
@@ -24,6 +25,25 @@ fn is_below(at: usize, count: usize) -> bool
     ensures { λ r. ⌜ r ≡ ltb at count ⌝ }
 {
     at < count
+}
+
+// An answer with all as it was.
+fn kept(
+    answer: Answer,
+    registry: RegistryState,
+    registry_count: usize,
+    row: CredentialState,
+    row_count: usize,
+) -> Next
+    ensures { λ r. ⌜ r ≡ record { answer = answer; registry = registry; «registry_count» = «registry_count»; row = row; «row_count» = «row_count» } ⌝ }
+{
+    Next {
+        answer,
+        registry,
+        registry_count,
+        row,
+        row_count,
+    }
 }
 
 // A vcp: a new registry behind the last.
@@ -40,23 +60,17 @@ fn incept_next(
     let fold = incept_with_evidence(s);
     let folded = fold.answer;
     let state = fold.state;
-    let answer = inception_answer(held, folded, registry_count);
-    if accepts(answer) {
+    let inception = inception_answer(held, folded, registry_count);
+    if accepts(inception) {
         return Next {
-            answer,
+            answer: inception,
             registry: state,
             registry_count: registry_count + 1,
             row,
             row_count,
         };
     }
-    Next {
-        answer,
-        registry,
-        registry_count,
-        row,
-        row_count,
-    }
+    kept(inception, registry, registry_count, row, row_count)
 }
 
 // A vrt: the registry's next state.
@@ -73,23 +87,17 @@ fn rotate_next(
     let fold = ingest_registry(registry, s);
     let folded = fold.answer;
     let state = fold.state;
-    let answer = rotation_answer(held, folded);
-    if accepts(answer) {
+    let rotation = rotation_answer(held, folded);
+    if accepts(rotation) {
         return Next {
-            answer,
+            answer: rotation,
             registry: state,
             registry_count,
             row,
             row_count,
         };
     }
-    Next {
-        answer,
-        registry,
-        registry_count,
-        row,
-        row_count,
-    }
+    kept(rotation, registry, registry_count, row, row_count)
 }
 
 // An iss or bis: a new row behind the last.
@@ -107,23 +115,17 @@ fn issue_next(
     let fold = incept_credential(registry, s);
     let folded = fold.answer;
     let state = fold.state;
-    let answer = issue_answer(held, listed, folded, row_count);
-    if accepts(answer) {
+    let issue = issue_answer(held, listed, folded, row_count);
+    if accepts(issue) {
         return Next {
-            answer,
+            answer: issue,
             registry,
             registry_count,
             row: state,
             row_count: row_count + 1,
         };
     }
-    Next {
-        answer,
-        registry,
-        registry_count,
-        row,
-        row_count,
-    }
+    kept(issue, registry, registry_count, row, row_count)
 }
 
 // A rev or brv: the row's next state.
@@ -141,23 +143,17 @@ fn revoke_next(
     let fold = ingest_credential(registry, row, s);
     let folded = fold.answer;
     let state = fold.state;
-    let answer = revocation_answer(held, listed, folded);
-    if accepts(answer) {
+    let revocation = revocation_answer(held, listed, folded);
+    if accepts(revocation) {
         return Next {
-            answer,
+            answer: revocation,
             registry,
             registry_count,
             row: state,
             row_count,
         };
     }
-    Next {
-        answer,
-        registry,
-        registry_count,
-        row,
-        row_count,
-    }
+    kept(revocation, registry, registry_count, row, row_count)
 }
 
 // By the kind of fold that is asked for.
@@ -202,8 +198,8 @@ pub fn next(
 ) -> Next
     ensures { λ r. ⌜ Leaves (effectNamed ok (now (s .entry)) named «registry_at» «registry_count» registry «row_at» «row_count» row) registry «registry_count» row «row_count» r ⌝ }
 {
-    let answer = asked_answer(ok, named.refusal);
-    if accepts(answer) {
+    let asked = asked_answer(ok, named.refusal);
+    if accepts(asked) {
         return kind_next(
             s,
             named,
@@ -215,11 +211,5 @@ pub fn next(
             row,
         );
     }
-    Next {
-        answer,
-        registry,
-        registry_count,
-        row,
-        row_count,
-    }
+    kept(asked, registry, registry_count, row, row_count)
 }

@@ -33,12 +33,15 @@ returns c =
     let z = b4 .before .before .args in
     new-registry (z .registry) (z .registry-count) (z .row) (z .row-count) (now (z .s)) (z .held) (c .before .before .inception-answer .result) (sym (c .before .accepts .ensures) ∙ c .if1 .taken) (b4 .incept-with-evidence .result) (b4 .incept-with-evidence .ensures .0) (b4 .incept-with-evidence .ensures .1) (c .before .before .inception-answer .ensures)
 
+kept-requires : tie.Need-kept-requires
+kept-requires c κs = search needs
+
 returns-2 : tie.Need-returns-2
 returns-2 c =
-    let b3 = c .before .before .before in
+    let b3 = c .before .before .before .before in
     let b4 = b3 .before in
     let z = b4 .before .before .args in
-    leaves-all (z .registry) (z .registry-count) (z .row) (z .row-count) (c .before .before .inception-answer .result) _ _ (c .before .before .inception-answer .ensures ∙ ap (λ (x : Outcome). inceptionAnswer (z .held) (x .answer) (z .registry-count)) (b4 .incept-with-evidence .ensures .0)) (sym (c .before .accepts .ensures) ∙ c .if1 .left)
+    leaves-all (z .registry) (z .registry-count) (z .row) (z .row-count) (c .before .before .before .inception-answer .result) _ _ (c .kept .result) (c .kept .ensures) (c .before .before .before .inception-answer .ensures ∙ ap (λ (x : Outcome). inceptionAnswer (z .held) (x .answer) (z .registry-count)) (b4 .incept-with-evidence .ensures .0)) (sym (c .before .before .accepts .ensures) ∙ c .before .if1 .left)
 
 pub incept-next-spec : {M : Type 1} → statement M
 incept-next-spec =
@@ -48,5 +51,4 @@ incept-next-spec =
     inception-answer-requires
     accepts-requires
     add-t12
-    returns
-    returns-2)
+    returns kept-requires returns-2)
