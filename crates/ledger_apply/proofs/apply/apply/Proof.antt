@@ -1,4 +1,5 @@
--- `apply::apply` meets its contract: a walk of its MIR, by hand, over three slices at three lifetimes. It has no branch and opens no borrow: ten calls. The two `&mut` slices are lent as `&` to those that read, each for a lifetime of the call, and come back as they were; they are lent again as `&mut`, whole, to those that store, and come back at the list that the call leaves. The attempt's `&` is Copy. A lemma for each call, from the last.
+-- `apply::apply` meets its contract: a walk of its MIR, by hand, over three slices at three lifetimes. It has no branch and opens no borrow: ten calls. The two `&mut` slices are lent as `&` to those that read, for a lifetime of the call, and come back as they were; they are lent again as `&mut`, whole, to those that store, and come back at the list that the call leaves. The attempt's `&` is Copy.
+-- Each call stands first by itself, whatever else is in the context: the locals are thirty, and a step is dearer the more there is beside it. Then a lemma for each call, from the last. The types and the offsets of the fields that are passed are written out for the same reason.
 -- What the calls tell is what the ledger's step says: `reached` of `../../Reached.antt`.
 -- Assumes nothing.
 use mathlib.Core.Path.{_≡_, refl, sym, ap, subst}
@@ -273,9 +274,6 @@ module _ {M : Type 1} (𝓤 : URA M) (H : Heap 𝓤) (A : Atoms 𝓤) (W : Given
   abbrev IsThere : ℕ → RegistryState → Type 0
   IsThere i g = (i < length gs → g ≡ getD gs i blank)
 
-  abbrev Read : ℕ → RegistryState → Type 0
-  Read i g = IsHeld i g × IsThere i g
-
   abbrev Reached : ℕ → ℕ → Next → Type 0
   Reached i j y = Done gs m ws n s (set gs i (y .registry)) (set ws j (y .row)) (appliedOf y)
 
@@ -330,7 +328,7 @@ module _ {M : Type 1} (𝓤 : URA M) (H : Heap 𝓤) (A : Atoms 𝓤) (W : Given
 
   goes-seek : (k : Named) (is-k : IsNamed k) (ν : ℕ) (δ-g : GName) → ent 𝓤 (sep 𝓤 (A .lft (ν ∷ []) fullShare) (sem 𝓤 H A (Shr-g ν δ-g))) (FindRegistry 𝓤 H A mem run .pre (to-seek k ν δ-g))
   goes-seek k is-k ν δ-g =
-      qed W (‵ (flft (ν ∷ []) fullShare) ∷ ‵ (Shr-g ν δ-g) ∷ []) ∵ nothing ! $ move ! (1 ∷ 0 ∷ []) $ join ! $ nothing ! $ owned ! S.the-row (Is S.the-row) ((LL.makes S.the-type S′.the-plain) 𝓤 H A) ((k .registry)) _ (named-registry k is-k) $ fjoin ! $ owned ! usize (Is usize) (uint-makes 𝓤 H A W w64) m _ (refl, m-fits) $ fjoin ! $ move ! (2 ∷ 0 ∷ []) $ fjoin ! $ move ! (1 ∷ 0 ∷ []) $ join ! $ nothing ! $ move ! (1 ∷ 0 ∷ []) $ frame ! $ done !
+      qed W (‵ (flft (ν ∷ []) fullShare) ∷ ‵ (Shr-g ν δ-g) ∷ []) ∵ nothing ! $ move ! (1 ∷ 0 ∷ []) $ join ! $ nothing ! $ owned ! S.the-row (Is S.the-row) ((LL.makes S.the-type S′.the-plain) 𝓤 H A) (k .registry) _ (named-registry k is-k) $ fjoin ! $ owned ! usize (Is usize) (uint-makes 𝓤 H A W w64) m _ (refl, m-fits) $ fjoin ! $ move ! (2 ∷ 0 ∷ []) $ fjoin ! $ move ! (1 ∷ 0 ∷ []) $ join ! $ nothing ! $ move ! (1 ∷ 0 ∷ []) $ frame ! $ done !
 
   said-seek : (k : Named) (ν : ℕ) (δ-g : GName) (r : ℕ) → ent 𝓤 (ensured 𝓤 H A seek.ended (seek.clauses 𝓤 H A mem run) (ν ∷ [], tt) (arg-seek k δ-g) tt r) (fact 𝓤 (r ≡ findRegistry gs m (k .registry)))
   said-seek k ν δ-g r = exE 𝓤 _ (λ ls. snd∗ 𝓤 (sem 𝓤 H A (lasts seek.ended (ν ∷ [], tt) (arg-seek k δ-g) ls)) (fact 𝓤 (r ≡ findRegistry gs m (k .registry))))
@@ -358,7 +356,7 @@ module _ {M : Type 1} (𝓤 : URA M) (H : Heap 𝓤) (A : Atoms 𝓤) (W : Given
 
   goes-find : (k : Named) (is-k : IsNamed k) (ν : ℕ) (δ-w : GName) → ent 𝓤 (sep 𝓤 (A .lft (ν ∷ []) fullShare) (sem 𝓤 H A (Shr-w ν δ-w))) (FindAt 𝓤 H A mem run .pre (to-find k ν δ-w))
   goes-find k is-k ν δ-w =
-      qed W (‵ (flft (ν ∷ []) fullShare) ∷ ‵ (Shr-w ν δ-w) ∷ []) ∵ nothing ! $ move ! (1 ∷ 0 ∷ []) $ join ! $ nothing ! $ owned ! S.the-row (Is S.the-row) ((LL.makes S.the-type S′.the-plain) 𝓤 H A) ((k .credential)) _ (named-credential k is-k) $ fjoin ! $ owned ! S.the-row (Is S.the-row) ((LL.makes S.the-type S′.the-plain) 𝓤 H A) ((k .registry)) _ (named-registry k is-k) $ fjoin ! $ owned ! usize (Is usize) (uint-makes 𝓤 H A W w64) n _ (refl, n-fits) $ fjoin ! $ move ! (2 ∷ 0 ∷ []) $ fjoin ! $ move ! (1 ∷ 0 ∷ []) $ join ! $ nothing ! $ move ! (1 ∷ 0 ∷ []) $ frame ! $ done !
+      qed W (‵ (flft (ν ∷ []) fullShare) ∷ ‵ (Shr-w ν δ-w) ∷ []) ∵ nothing ! $ move ! (1 ∷ 0 ∷ []) $ join ! $ nothing ! $ owned ! S.the-row (Is S.the-row) ((LL.makes S.the-type S′.the-plain) 𝓤 H A) (k .credential) _ (named-credential k is-k) $ fjoin ! $ owned ! S.the-row (Is S.the-row) ((LL.makes S.the-type S′.the-plain) 𝓤 H A) (k .registry) _ (named-registry k is-k) $ fjoin ! $ owned ! usize (Is usize) (uint-makes 𝓤 H A W w64) n _ (refl, n-fits) $ fjoin ! $ move ! (2 ∷ 0 ∷ []) $ fjoin ! $ move ! (1 ∷ 0 ∷ []) $ join ! $ nothing ! $ move ! (1 ∷ 0 ∷ []) $ frame ! $ done !
 
   said-find : (k : Named) (ν : ℕ) (δ-w : GName) (r : ℕ) → ent 𝓤 (ensured 𝓤 H A find.ended (find.clauses 𝓤 H A mem run) (ν ∷ [], tt) (arg-find k δ-w) tt r) (fact 𝓤 (r ≡ findAt ws n (k .registry) (k .credential)))
   said-find k ν δ-w r = exE 𝓤 _ (λ ls. snd∗ 𝓤 (sem 𝓤 H A (lasts find.ended (ν ∷ [], tt) (arg-find k δ-w) ls)) (fact 𝓤 (r ≡ findAt ws n (k .registry) (k .credential))))
@@ -393,39 +391,39 @@ module _ {M : Type 1} (𝓤 : URA M) (H : Heap 𝓤) (A : Atoms 𝓤) (W : Given
 
   -- ---- the call of `store_registry`
   abbrev arg-put : ℕ → Next → GName → RefT (List RegistryState) × (ℕ × (RegistryState × Unit {0}))
-  arg-put i x′ δ-g = (registries δ-g gs, (i, ((x′ .registry), tt)))
+  arg-put i y δ-g = (registries δ-g gs, (i, ((y .registry), tt)))
 
   abbrev to-put : ℕ → Next → ℕ → GName → StoreRegistry 𝓤 H A mem run .Ghost
-  to-put i x′ ν δ-g = (((ν ∷ [], tt), (fullShare, tt), tt, (arg-put i x′ δ-g), (val-g ∷ [], (vint w64 i ∷ [], (LL.val G.the-type G′.the-laws (x′ .registry) ∷ [], tt)))), tt)
+  to-put i y ν δ-g = (((ν ∷ [], tt), (fullShare, tt), tt, (arg-put i y δ-g), (val-g ∷ [], (vint w64 i ∷ [], (LL.val G.the-type G′.the-laws (y .registry) ∷ [], tt)))), tt)
 
-  goes-put : (i : ℕ) (f-i : i < 2 ^ 64) (x′ : Next) (is-x : IsNext x′) (ν : ℕ) (δ-g : GName) → ent 𝓤 (sep 𝓤 (A .lft (ν ∷ []) fullShare) (sem 𝓤 H A (Mut-g ν δ-g))) (StoreRegistry 𝓤 H A mem run .pre (to-put i x′ ν δ-g))
-  goes-put i f-i x′ is-x ν δ-g =
-      qed W (‵ (flft (ν ∷ []) fullShare) ∷ ‵ (Mut-g ν δ-g) ∷ []) ∵ nothing ! $ move ! (1 ∷ 0 ∷ []) $ join ! $ nothing ! $ owned ! G.the-row (Is G.the-row) ((LL.makes G.the-type G′.the-plain) 𝓤 H A) ((x′ .registry)) _ (next-registry x′ is-x) $ fjoin ! $ owned ! usize (Is usize) (uint-makes 𝓤 H A W w64) i _ (refl, f-i) $ fjoin ! $ move ! (2 ∷ 0 ∷ []) $ fjoin ! $ move ! (1 ∷ 0 ∷ []) $ join ! $ nothing ! $ move ! (1 ∷ 0 ∷ []) $ frame ! $ done !
+  goes-put : (i : ℕ) (f-i : i < 2 ^ 64) (y : Next) (is-x : IsNext y) (ν : ℕ) (δ-g : GName) → ent 𝓤 (sep 𝓤 (A .lft (ν ∷ []) fullShare) (sem 𝓤 H A (Mut-g ν δ-g))) (StoreRegistry 𝓤 H A mem run .pre (to-put i y ν δ-g))
+  goes-put i f-i y is-x ν δ-g =
+      qed W (‵ (flft (ν ∷ []) fullShare) ∷ ‵ (Mut-g ν δ-g) ∷ []) ∵ nothing ! $ move ! (1 ∷ 0 ∷ []) $ join ! $ nothing ! $ owned ! G.the-row (Is G.the-row) ((LL.makes G.the-type G′.the-plain) 𝓤 H A) (y .registry) _ (next-registry y is-x) $ fjoin ! $ owned ! usize (Is usize) (uint-makes 𝓤 H A W w64) i _ (refl, f-i) $ fjoin ! $ move ! (2 ∷ 0 ∷ []) $ fjoin ! $ move ! (1 ∷ 0 ∷ []) $ join ! $ nothing ! $ move ! (1 ∷ 0 ∷ []) $ frame ! $ done !
 
   -- ---- the call of `store_row`
   abbrev arg-keep : ℕ → Next → GName → RefT (List CredentialState) × (ℕ × (CredentialState × Unit {0}))
-  arg-keep j x′ δ-w = (credentials δ-w ws, (j, ((x′ .row), tt)))
+  arg-keep j y δ-w = (credentials δ-w ws, (j, ((y .row), tt)))
 
   abbrev to-keep : ℕ → Next → ℕ → GName → StoreRow 𝓤 H A mem run .Ghost
-  to-keep j x′ ν δ-w = (((ν ∷ [], tt), (fullShare, tt), tt, (arg-keep j x′ δ-w), (val-w ∷ [], (vint w64 j ∷ [], (T′.lowered (x′ .row) ∷ [], tt)))), tt)
+  to-keep j y ν δ-w = (((ν ∷ [], tt), (fullShare, tt), tt, (arg-keep j y δ-w), (val-w ∷ [], (vint w64 j ∷ [], (T′.lowered (y .row) ∷ [], tt)))), tt)
 
-  goes-keep : (j : ℕ) (f-j : j < 2 ^ 64) (x′ : Next) (is-x : IsNext x′) (ν : ℕ) (δ-w : GName) → ent 𝓤 (sep 𝓤 (A .lft (ν ∷ []) fullShare) (sem 𝓤 H A (Mut-w ν δ-w))) (StoreRow 𝓤 H A mem run .pre (to-keep j x′ ν δ-w))
-  goes-keep j f-j x′ is-x ν δ-w =
-      qed W (‵ (flft (ν ∷ []) fullShare) ∷ ‵ (Mut-w ν δ-w) ∷ []) ∵ nothing ! $ move ! (1 ∷ 0 ∷ []) $ join ! $ nothing ! $ owned ! T.the-row (Is T.the-row) ((LL.makes T.the-type T′.the-plain) 𝓤 H A) ((x′ .row)) _ (next-row x′ is-x) $ fjoin ! $ owned ! usize (Is usize) (uint-makes 𝓤 H A W w64) j _ (refl, f-j) $ fjoin ! $ move ! (2 ∷ 0 ∷ []) $ fjoin ! $ move ! (1 ∷ 0 ∷ []) $ join ! $ nothing ! $ move ! (1 ∷ 0 ∷ []) $ frame ! $ done !
+  goes-keep : (j : ℕ) (f-j : j < 2 ^ 64) (y : Next) (is-x : IsNext y) (ν : ℕ) (δ-w : GName) → ent 𝓤 (sep 𝓤 (A .lft (ν ∷ []) fullShare) (sem 𝓤 H A (Mut-w ν δ-w))) (StoreRow 𝓤 H A mem run .pre (to-keep j y ν δ-w))
+  goes-keep j f-j y is-x ν δ-w =
+      qed W (‵ (flft (ν ∷ []) fullShare) ∷ ‵ (Mut-w ν δ-w) ∷ []) ∵ nothing ! $ move ! (1 ∷ 0 ∷ []) $ join ! $ nothing ! $ owned ! T.the-row (Is T.the-row) ((LL.makes T.the-type T′.the-plain) 𝓤 H A) (y .row) _ (next-row y is-x) $ fjoin ! $ owned ! usize (Is usize) (uint-makes 𝓤 H A W w64) j _ (refl, f-j) $ fjoin ! $ move ! (2 ∷ 0 ∷ []) $ fjoin ! $ move ! (1 ∷ 0 ∷ []) $ join ! $ nothing ! $ move ! (1 ∷ 0 ∷ []) $ frame ! $ done !
 
   -- ---- the call of `answered`
   abbrev arg-answer : Next → Next × Unit {0}
-  arg-answer x′ = (x′, tt)
+  arg-answer y = (y, tt)
 
   abbrev to-answer : Next → Answered 𝓤 H A mem run .Ghost
-  to-answer x′ = ((tt, tt, tt, (arg-answer x′), (LL.val X.the-type X′.the-laws x′ ∷ [], tt)), tt)
+  to-answer y = ((tt, tt, tt, (arg-answer y), (LL.val X.the-type X′.the-laws y ∷ [], tt)), tt)
 
-  goes-answer : (x′ : Next) (is-x : IsNext x′) → ent 𝓤 (emp 𝓤) (Answered 𝓤 H A mem run .pre (to-answer x′))
-  goes-answer x′ is-x =
-      qed W ([]) ∵ nothing ! $ nothing ! $ owned ! X.the-row (Is X.the-row) ((LL.makes X.the-type X′.the-plain) 𝓤 H A) x′ _ is-x $ fjoin ! $ move ! (1 ∷ 0 ∷ []) $ join ! $ nothing ! $ move ! (1 ∷ 0 ∷ []) $ frame ! $ done !
+  goes-answer : (y : Next) (is-x : IsNext y) → ent 𝓤 (emp 𝓤) (Answered 𝓤 H A mem run .pre (to-answer y))
+  goes-answer y is-x =
+      qed W [] ∵ nothing ! $ nothing ! $ owned ! X.the-row (Is X.the-row) ((LL.makes X.the-type X′.the-plain) 𝓤 H A) y _ is-x $ fjoin ! $ move ! (1 ∷ 0 ∷ []) $ join ! $ nothing ! $ move ! (1 ∷ 0 ∷ []) $ frame ! $ done !
 
-  said-answer : (x′ : Next) (r : Applied) → ent 𝓤 (ensured 𝓤 H A answer.ended (answer.clauses 𝓤 H A mem run) tt (arg-answer x′) tt r) (fact 𝓤 (r ≡ appliedOf x′))
-  said-answer x′ r = exE 𝓤 _ (λ ls. snd∗ 𝓤 (sem 𝓤 H A (lasts answer.ended tt (arg-answer x′) ls)) (fact 𝓤 (r ≡ appliedOf x′)))
+  said-answer : (y : Next) (r : Applied) → ent 𝓤 (ensured 𝓤 H A answer.ended (answer.clauses 𝓤 H A mem run) tt (arg-answer y) tt r) (fact 𝓤 (r ≡ appliedOf y))
+  said-answer y r = exE 𝓤 _ (λ ls. snd∗ 𝓤 (sem 𝓤 H A (lasts answer.ended tt (arg-answer y) ls)) (fact 𝓤 (r ≡ appliedOf y)))
 
   module _ (C : Calls 𝓤 H) (Λ : Loops 𝓤 H) (fm : FmC 𝓤 H (W .laws) C) (known-check : Triple 𝓤 (C #check) (Sound 𝓤 H A mem run)) (known-ask : Triple 𝓤 (C #ask) (Names 𝓤 H A mem run)) (known-seek : Triple 𝓤 (C #seek) (FindRegistry 𝓤 H A mem run)) (known-fetch : Triple 𝓤 (C #fetch) (ReadRegistry 𝓤 H A mem run)) (known-find : Triple 𝓤 (C #find) (FindAt 𝓤 H A mem run)) (known-read : Triple 𝓤 (C #read) (ReadRow 𝓤 H A mem run)) (known-step : Triple 𝓤 (C #step) (Step 𝓤 H A mem run)) (known-put : Triple 𝓤 (C #put) (StoreRegistry 𝓤 H A mem run)) (known-keep : Triple 𝓤 (C #keep) (StoreRow 𝓤 H A mem run)) (known-answer : Triple 𝓤 (C #answer) (Answered 𝓤 H A mem run)) where
     -- ---- the calls, whatever else is in the context
@@ -562,16 +560,16 @@ module _ {M : Type 1} (𝓤 : URA M) (H : Heap 𝓤) (A : Atoms 𝓤) (W : Given
           drop t $
           after r e u is))))
 
-      calls-put : K → (i : ℕ) → (f-i : i < 2 ^ 64) → (x′ : Next) → (is-x : IsNext x′) → ((ν : ℕ) (δ-g : GName) → Opds K W (raw (StoreRegistry 𝓤 H A mem run .pre (to-put i x′ ν δ-g)) ∷ ‵ (again.Kept G.the-row κ (ν ∷ []) q γ-g b-g o-g δ-g gs) ∷ Γ) E xs (StoreRegistry 𝓤 H A mem run .args (to-put i x′ ν δ-g))) → ((r : Unit {0}) (u : Val) → Is Nothing r (u ∷ []) → Seq K W (‵ (ObsG (set gs i (x′ .registry))) ∷ ‵ (BorG (set gs i (x′ .registry))) ∷ ‵ (flft κ q) ∷ Γ) (lands C Λ E d u rest p)) → Seq K W (‵ (ObsG gs) ∷ ‵ (BorG gs) ∷ ‵ (flft κ q) ∷ Γ) (runs C Λ E (seq (call #put xs d) rest) p)
-      calls-put t i f-i x′ is-x os after =
+      calls-put : K → (i : ℕ) → (f-i : i < 2 ^ 64) → (y : Next) → (is-x : IsNext y) → ((ν : ℕ) (δ-g : GName) → Opds K W (raw (StoreRegistry 𝓤 H A mem run .pre (to-put i y ν δ-g)) ∷ ‵ (again.Kept G.the-row κ (ν ∷ []) q γ-g b-g o-g δ-g gs) ∷ Γ) E xs (StoreRegistry 𝓤 H A mem run .args (to-put i y ν δ-g))) → ((r : Unit {0}) (u : Val) → Is Nothing r (u ∷ []) → Seq K W (‵ (ObsG (set gs i (y .registry))) ∷ ‵ (BorG (set gs i (y .registry))) ∷ ‵ (flft κ q) ∷ Γ) (lands C Λ E d u rest p)) → Seq K W (‵ (ObsG gs) ∷ ‵ (BorG gs) ∷ ‵ (flft κ q) ∷ Γ) (runs C Λ E (seq (call #put xs d) rest) p)
+      calls-put t i f-i y is-x os after =
           lft-new t tt (λ ν. move t (1 ∷ 2 ∷ 3 ∷ []) $
           use3 W (later (some (λ (δ : GName). ‵ (Mut-g ν δ) ⊛ ‵ (again.Kept G.the-row κ (ν ∷ []) q γ-g b-g o-g δ gs)))) (again.relends G.the-row κ (ν ∷ []) q γ-g b-g o-g 𝓤 H A W gs (named 0) val-g refl room-g) $ await t tt $ pick t (λ δ-g. split t $
           move t (2 ∷ 0 ∷ []) $
-          use2 W (raw (StoreRegistry 𝓤 H A mem run .pre (to-put i x′ ν δ-g))) (goes-put i f-i x′ is-x ν δ-g) $
-          calls-at t fm (StoreRegistry 𝓤 H A mem run) known-put (to-put i x′ ν δ-g) (os ν δ-g) (λ u.
-          use1 W (later (some (λ (r : Unit {0}). ((‵ (flft (ν ∷ []) fullShare) ⊛ ‵ ftrue) ⊛ ‵ (Nothing .own r (u ∷ []))) ⊛ raw (ensured 𝓤 H A put.ended (put.clauses 𝓤 H A mem run) (ν ∷ [], tt) (arg-put i x′ δ-g) tt r)))) (id⊢ 𝓤 _) $ await t tt $ pick t (λ r.
-          split t $ move t (1 ∷ []) $ use1 W (some (λ (ls : List RegistryState × (Unit {0} × (Unit {0} × Unit {0}))). ‵ (lasts put.ended (ν ∷ [], tt) (arg-put i x′ δ-g) ls) ⊛ raw (fact 𝓤 ((ls .0) ≡ set gs i (x′ .registry))))) (id⊢ 𝓤 _) $ pick t (λ ls.
-          split t $ move t (1 ∷ []) $ heard t ((ls .0) ≡ set gs i (x′ .registry)) (λ e. fsplit t $ fsplit t $ move t (1 ∷ []) $ feqL t (λ _.
+          use2 W (raw (StoreRegistry 𝓤 H A mem run .pre (to-put i y ν δ-g))) (goes-put i f-i y is-x ν δ-g) $
+          calls-at t fm (StoreRegistry 𝓤 H A mem run) known-put (to-put i y ν δ-g) (os ν δ-g) (λ u.
+          use1 W (later (some (λ (r : Unit {0}). ((‵ (flft (ν ∷ []) fullShare) ⊛ ‵ ftrue) ⊛ ‵ (Nothing .own r (u ∷ []))) ⊛ raw (ensured 𝓤 H A put.ended (put.clauses 𝓤 H A mem run) (ν ∷ [], tt) (arg-put i y δ-g) tt r)))) (id⊢ 𝓤 _) $ await t tt $ pick t (λ r.
+          split t $ move t (1 ∷ []) $ use1 W (some (λ (ls : List RegistryState × (Unit {0} × (Unit {0} × Unit {0}))). ‵ (lasts put.ended (ν ∷ [], tt) (arg-put i y δ-g) ls) ⊛ raw (fact 𝓤 ((ls .0) ≡ set gs i (y .registry))))) (id⊢ 𝓤 _) $ pick t (λ ls.
+          split t $ move t (1 ∷ []) $ heard t ((ls .0) ≡ set gs i (y .registry)) (λ e. fsplit t $ fsplit t $ move t (1 ∷ []) $ feqL t (λ _.
           move t (2 ∷ []) $ split t $ move t (1 ∷ []) $ facts t Nothing (Is Nothing) (shows 𝓤 H A Nothing) r (u ∷ []) (λ is.
           split t $ lft-end t tt $
           move t (0 ∷ 4 ∷ 2 ∷ []) $
@@ -584,16 +582,16 @@ module _ {M : Type 1} (𝓤 : URA M) (H : Heap 𝓤) (A : Atoms 𝓤) (W : Given
           rewrite t 0 (λ (z : List RegistryState). ‵ (ObsG z)) e refl $ rewrite t 1 (λ (z : List RegistryState). ‵ (BorG z)) e refl $
           after r u is))))))))
 
-      calls-keep : K → (j : ℕ) → (f-j : j < 2 ^ 64) → (x′ : Next) → (is-x : IsNext x′) → ((ν : ℕ) (δ-w : GName) → Opds K W (raw (StoreRow 𝓤 H A mem run .pre (to-keep j x′ ν δ-w)) ∷ ‵ (again.Kept T.the-row κ′ (ν ∷ []) q′ γ-w b-w o-w δ-w ws) ∷ Γ) E xs (StoreRow 𝓤 H A mem run .args (to-keep j x′ ν δ-w))) → ((r : Unit {0}) (u : Val) → Is Nothing r (u ∷ []) → Seq K W (‵ (ObsW (set ws j (x′ .row))) ∷ ‵ (BorW (set ws j (x′ .row))) ∷ ‵ (flft κ′ q′) ∷ Γ) (lands C Λ E d u rest p)) → Seq K W (‵ (ObsW ws) ∷ ‵ (BorW ws) ∷ ‵ (flft κ′ q′) ∷ Γ) (runs C Λ E (seq (call #keep xs d) rest) p)
-      calls-keep t j f-j x′ is-x os after =
+      calls-keep : K → (j : ℕ) → (f-j : j < 2 ^ 64) → (y : Next) → (is-x : IsNext y) → ((ν : ℕ) (δ-w : GName) → Opds K W (raw (StoreRow 𝓤 H A mem run .pre (to-keep j y ν δ-w)) ∷ ‵ (again.Kept T.the-row κ′ (ν ∷ []) q′ γ-w b-w o-w δ-w ws) ∷ Γ) E xs (StoreRow 𝓤 H A mem run .args (to-keep j y ν δ-w))) → ((r : Unit {0}) (u : Val) → Is Nothing r (u ∷ []) → Seq K W (‵ (ObsW (set ws j (y .row))) ∷ ‵ (BorW (set ws j (y .row))) ∷ ‵ (flft κ′ q′) ∷ Γ) (lands C Λ E d u rest p)) → Seq K W (‵ (ObsW ws) ∷ ‵ (BorW ws) ∷ ‵ (flft κ′ q′) ∷ Γ) (runs C Λ E (seq (call #keep xs d) rest) p)
+      calls-keep t j f-j y is-x os after =
           lft-new t tt (λ ν. move t (1 ∷ 2 ∷ 3 ∷ []) $
           use3 W (later (some (λ (δ : GName). ‵ (Mut-w ν δ) ⊛ ‵ (again.Kept T.the-row κ′ (ν ∷ []) q′ γ-w b-w o-w δ ws)))) (again.relends T.the-row κ′ (ν ∷ []) q′ γ-w b-w o-w 𝓤 H A W ws (named 0) val-w refl room-w) $ await t tt $ pick t (λ δ-w. split t $
           move t (2 ∷ 0 ∷ []) $
-          use2 W (raw (StoreRow 𝓤 H A mem run .pre (to-keep j x′ ν δ-w))) (goes-keep j f-j x′ is-x ν δ-w) $
-          calls-at t fm (StoreRow 𝓤 H A mem run) known-keep (to-keep j x′ ν δ-w) (os ν δ-w) (λ u.
-          use1 W (later (some (λ (r : Unit {0}). ((‵ (flft (ν ∷ []) fullShare) ⊛ ‵ ftrue) ⊛ ‵ (Nothing .own r (u ∷ []))) ⊛ raw (ensured 𝓤 H A keep.ended (keep.clauses 𝓤 H A mem run) (ν ∷ [], tt) (arg-keep j x′ δ-w) tt r)))) (id⊢ 𝓤 _) $ await t tt $ pick t (λ r.
-          split t $ move t (1 ∷ []) $ use1 W (some (λ (ls : List CredentialState × (Unit {0} × (Unit {0} × Unit {0}))). ‵ (lasts keep.ended (ν ∷ [], tt) (arg-keep j x′ δ-w) ls) ⊛ raw (fact 𝓤 ((ls .0) ≡ set ws j (x′ .row))))) (id⊢ 𝓤 _) $ pick t (λ ls.
-          split t $ move t (1 ∷ []) $ heard t ((ls .0) ≡ set ws j (x′ .row)) (λ e. fsplit t $ fsplit t $ move t (1 ∷ []) $ feqL t (λ _.
+          use2 W (raw (StoreRow 𝓤 H A mem run .pre (to-keep j y ν δ-w))) (goes-keep j f-j y is-x ν δ-w) $
+          calls-at t fm (StoreRow 𝓤 H A mem run) known-keep (to-keep j y ν δ-w) (os ν δ-w) (λ u.
+          use1 W (later (some (λ (r : Unit {0}). ((‵ (flft (ν ∷ []) fullShare) ⊛ ‵ ftrue) ⊛ ‵ (Nothing .own r (u ∷ []))) ⊛ raw (ensured 𝓤 H A keep.ended (keep.clauses 𝓤 H A mem run) (ν ∷ [], tt) (arg-keep j y δ-w) tt r)))) (id⊢ 𝓤 _) $ await t tt $ pick t (λ r.
+          split t $ move t (1 ∷ []) $ use1 W (some (λ (ls : List CredentialState × (Unit {0} × (Unit {0} × Unit {0}))). ‵ (lasts keep.ended (ν ∷ [], tt) (arg-keep j y δ-w) ls) ⊛ raw (fact 𝓤 ((ls .0) ≡ set ws j (y .row))))) (id⊢ 𝓤 _) $ pick t (λ ls.
+          split t $ move t (1 ∷ []) $ heard t ((ls .0) ≡ set ws j (y .row)) (λ e. fsplit t $ fsplit t $ move t (1 ∷ []) $ feqL t (λ _.
           move t (2 ∷ []) $ split t $ move t (1 ∷ []) $ facts t Nothing (Is Nothing) (shows 𝓤 H A Nothing) r (u ∷ []) (λ is.
           split t $ lft-end t tt $
           move t (0 ∷ 4 ∷ 2 ∷ []) $
@@ -606,12 +604,12 @@ module _ {M : Type 1} (𝓤 : URA M) (H : Heap 𝓤) (A : Atoms 𝓤) (W : Given
           rewrite t 0 (λ (z : List CredentialState). ‵ (ObsW z)) e refl $ rewrite t 1 (λ (z : List CredentialState). ‵ (BorW z)) e refl $
           after r u is))))))))
 
-      calls-answer : K → (x′ : Next) → (is-x : IsNext x′) → Opds K W (raw (Answered 𝓤 H A mem run .pre (to-answer x′)) ∷ Γ) E xs (Answered 𝓤 H A mem run .args (to-answer x′)) → ((r : Applied) → r ≡ appliedOf x′ → (u : Val) → Is A₀.the-row r (u ∷ []) → Seq K W (Γ) (lands C Λ E d u rest p)) → Seq K W (Γ) (runs C Λ E (seq (call #answer xs d) rest) p)
-      calls-answer t x′ is-x os after =
-          use0 W (raw (Answered 𝓤 H A mem run .pre (to-answer x′))) (goes-answer x′ is-x) $
-          calls-at t fm (Answered 𝓤 H A mem run) known-answer (to-answer x′) os (λ u.
-          use1 W (later (some (λ (r : Applied). (‵ ftrue ⊛ ‵ (A₀.the-row .own r (u ∷ []))) ⊛ raw (ensured 𝓤 H A answer.ended (answer.clauses 𝓤 H A mem run) tt (arg-answer x′) tt r)))) (id⊢ 𝓤 _) $ await t tt $ pick t (λ r.
-          split t $ move t (1 ∷ []) $ use1 W (raw (fact 𝓤 (r ≡ appliedOf x′))) (said-answer x′ r) $ heard t (r ≡ appliedOf x′) (λ e. split t $
+      calls-answer : K → (y : Next) → (is-x : IsNext y) → Opds K W (raw (Answered 𝓤 H A mem run .pre (to-answer y)) ∷ Γ) E xs (Answered 𝓤 H A mem run .args (to-answer y)) → ((r : Applied) → r ≡ appliedOf y → (u : Val) → Is A₀.the-row r (u ∷ []) → Seq K W Γ (lands C Λ E d u rest p)) → Seq K W Γ (runs C Λ E (seq (call #answer xs d) rest) p)
+      calls-answer t y is-x os after =
+          use0 W (raw (Answered 𝓤 H A mem run .pre (to-answer y))) (goes-answer y is-x) $
+          calls-at t fm (Answered 𝓤 H A mem run) known-answer (to-answer y) os (λ u.
+          use1 W (later (some (λ (r : Applied). (‵ ftrue ⊛ ‵ (A₀.the-row .own r (u ∷ []))) ⊛ raw (ensured 𝓤 H A answer.ended (answer.clauses 𝓤 H A mem run) tt (arg-answer y) tt r)))) (id⊢ 𝓤 _) $ await t tt $ pick t (λ r.
+          split t $ move t (1 ∷ []) $ use1 W (raw (fact 𝓤 (r ≡ appliedOf y))) (said-answer y r) $ heard t (r ≡ appliedOf y) (λ e. split t $
           drop t $
           facts t A₀.the-row (Is A₀.the-row) (shows 𝓤 H A A₀.the-row) r (u ∷ []) (λ is.
           after r e u is))))
@@ -621,39 +619,39 @@ module _ {M : Type 1} (𝓤 : URA M) (H : Heap 𝓤) (A : Atoms 𝓤) (W : Given
       En = (A′.mir, l₀) ∷ (slice-g, l₁) ∷ (word, l₂) ∷ (slice-w, l₃) ∷ (word, l₄) ∷ (slice-s, l₅) ∷ (tyBool, l₆) ∷ (N′.mir, l₇) ∷ (word, l₈) ∷ (G′.mir, l₉) ∷ (word, l₁₀) ∷ (T′.mir, l₁₁) ∷ (X′.mir, l₁₂) ∷ (sref-g, l₁₃) ∷ ((sliceTy sref-g), l₁₄) ∷ (sref-w, l₁₅) ∷ ((sliceTy sref-w), l₁₆) ∷ (sref-g, l₁₇) ∷ ((sliceTy sref-g), l₁₈) ∷ (sref-g, l₁₉) ∷ ((sliceTy sref-g), l₂₀) ∷ (sref-w, l₂₁) ∷ ((sliceTy sref-w), l₂₂) ∷ (sref-w, l₂₃) ∷ ((sliceTy sref-w), l₂₄) ∷ (tyUnit, l₂₅) ∷ (mref-g, l₂₆) ∷ ((sliceTy mref-g), l₂₇) ∷ (mref-w, l₂₈) ∷ ((sliceTy mref-w), l₂₉) ∷ []
 
       -- from the call of `answered` on
-      answers : (i : ℕ) → (j : ℕ) → (x′ : Next) → (d : Reached i j x′) → (is-x : IsNext x′) → Sq W (‵ (ObsG (set gs i (x′ .registry))) ∷ ‵ (BorG (set gs i (x′ .registry))) ∷ ‵ (flft κ q) ∷ ‵ (ObsW (set ws j (x′ .row))) ∷ ‵ (BorW (set ws j (x′ .row))) ∷ ‵ (flft κ′ q′) ∷ ‵ (flft κ″ q″) ∷ ‵ Own ∷ ‵ (froom (sliceTy mref-w) l₂₉ 0) ∷ ‵ (fdies (sliceTy mref-w) l₂₉) ∷ ‵ (froom mref-w l₂₈ 0) ∷ ‵ (fdies mref-w l₂₈) ∷ ‵ (froom (sliceTy mref-g) l₂₇ 0) ∷ ‵ (fdies (sliceTy mref-g) l₂₇) ∷ ‵ (froom mref-g l₂₆ 0) ∷ ‵ (fdies mref-g l₂₆) ∷ ‵ (froom tyUnit l₂₅ 0) ∷ ‵ (fdies tyUnit l₂₅) ∷ ‵ (froom (sliceTy sref-w) l₂₄ 0) ∷ ‵ (fdies (sliceTy sref-w) l₂₄) ∷ ‵ (froom sref-w l₂₃ 0) ∷ ‵ (fdies sref-w l₂₃) ∷ ‵ (froom (sliceTy sref-w) l₂₂ 0) ∷ ‵ (fdies (sliceTy sref-w) l₂₂) ∷ ‵ (froom sref-w l₂₁ 0) ∷ ‵ (fdies sref-w l₂₁) ∷ ‵ (froom (sliceTy sref-g) l₂₀ 0) ∷ ‵ (fdies (sliceTy sref-g) l₂₀) ∷ ‵ (froom sref-g l₁₉ 0) ∷ ‵ (fdies sref-g l₁₉) ∷ ‵ (froom (sliceTy sref-g) l₁₈ 0) ∷ ‵ (fdies (sliceTy sref-g) l₁₈) ∷ ‵ (froom sref-g l₁₇ 0) ∷ ‵ (fdies sref-g l₁₇) ∷ ‵ (froom (sliceTy sref-w) l₁₆ 0) ∷ ‵ (fdies (sliceTy sref-w) l₁₆) ∷ ‵ (froom sref-w l₁₅ 0) ∷ ‵ (fdies sref-w l₁₅) ∷ ‵ (froom (sliceTy sref-g) l₁₄ 0) ∷ ‵ (fdies (sliceTy sref-g) l₁₄) ∷ ‵ (froom sref-g l₁₃ 0) ∷ ‵ (fdies sref-g l₁₃) ∷ ‵ (fat fullShare X′.mir l₁₂ 0 (LL.val X.the-type X′.the-laws x′)) ∷ ‵ (fdies X′.mir l₁₂) ∷ ‵ (froom T′.mir l₁₁ 0) ∷ ‵ (fdies T′.mir l₁₁) ∷ ‵ (froom word l₁₀ 0) ∷ ‵ (fdies word l₁₀) ∷ ‵ (froom G′.mir l₉ 0) ∷ ‵ (fdies G′.mir l₉) ∷ ‵ (froom word l₈ 0) ∷ ‵ (fdies word l₈) ∷ ‵ (froom N′.mir l₇ 0) ∷ ‵ (fdies N′.mir l₇) ∷ ‵ (froom tyBool l₆ 0) ∷ ‵ (fdies tyBool l₆) ∷ ‵ (fat fullShare slice-s l₅ 0 (val-s)) ∷ ‵ (fdies slice-s l₅) ∷ ‵ (fat fullShare word l₄ 0 (vint w64 n)) ∷ ‵ (fdies word l₄) ∷ ‵ (fat fullShare slice-w l₃ 0 (val-w)) ∷ ‵ (fdies slice-w l₃) ∷ ‵ (fat fullShare word l₂ 0 (vint w64 m)) ∷ ‵ (fdies word l₂) ∷ ‵ (fat fullShare slice-g l₁ 0 (val-g)) ∷ ‵ (fdies slice-g l₁) ∷ ‵ (froom A′.mir l₀ 0) ∷ ‵ (fdies A′.mir l₀) ∷ []) (runs C Λ En mirᶠ.t-26 (atRet En Post))
-      answers i j x′ d is-x =
-          calls-answer ! x′ is-x (and-then ! (load ! (from ! (stop !)) (look ! 43 refl)) (no-more !)) (λ r e u is.
+      answers : (i : ℕ) → (j : ℕ) → (y : Next) → (d : Reached i j y) → (is-x : IsNext y) → Sq W (‵ (ObsG (set gs i (y .registry))) ∷ ‵ (BorG (set gs i (y .registry))) ∷ ‵ (flft κ q) ∷ ‵ (ObsW (set ws j (y .row))) ∷ ‵ (BorW (set ws j (y .row))) ∷ ‵ (flft κ′ q′) ∷ ‵ (flft κ″ q″) ∷ ‵ Own ∷ ‵ (froom (sliceTy mref-w) l₂₉ 0) ∷ ‵ (fdies (sliceTy mref-w) l₂₉) ∷ ‵ (froom mref-w l₂₈ 0) ∷ ‵ (fdies mref-w l₂₈) ∷ ‵ (froom (sliceTy mref-g) l₂₇ 0) ∷ ‵ (fdies (sliceTy mref-g) l₂₇) ∷ ‵ (froom mref-g l₂₆ 0) ∷ ‵ (fdies mref-g l₂₆) ∷ ‵ (froom tyUnit l₂₅ 0) ∷ ‵ (fdies tyUnit l₂₅) ∷ ‵ (froom (sliceTy sref-w) l₂₄ 0) ∷ ‵ (fdies (sliceTy sref-w) l₂₄) ∷ ‵ (froom sref-w l₂₃ 0) ∷ ‵ (fdies sref-w l₂₃) ∷ ‵ (froom (sliceTy sref-w) l₂₂ 0) ∷ ‵ (fdies (sliceTy sref-w) l₂₂) ∷ ‵ (froom sref-w l₂₁ 0) ∷ ‵ (fdies sref-w l₂₁) ∷ ‵ (froom (sliceTy sref-g) l₂₀ 0) ∷ ‵ (fdies (sliceTy sref-g) l₂₀) ∷ ‵ (froom sref-g l₁₉ 0) ∷ ‵ (fdies sref-g l₁₉) ∷ ‵ (froom (sliceTy sref-g) l₁₈ 0) ∷ ‵ (fdies (sliceTy sref-g) l₁₈) ∷ ‵ (froom sref-g l₁₇ 0) ∷ ‵ (fdies sref-g l₁₇) ∷ ‵ (froom (sliceTy sref-w) l₁₆ 0) ∷ ‵ (fdies (sliceTy sref-w) l₁₆) ∷ ‵ (froom sref-w l₁₅ 0) ∷ ‵ (fdies sref-w l₁₅) ∷ ‵ (froom (sliceTy sref-g) l₁₄ 0) ∷ ‵ (fdies (sliceTy sref-g) l₁₄) ∷ ‵ (froom sref-g l₁₃ 0) ∷ ‵ (fdies sref-g l₁₃) ∷ ‵ (fat fullShare X′.mir l₁₂ 0 (LL.val X.the-type X′.the-laws y)) ∷ ‵ (fdies X′.mir l₁₂) ∷ ‵ (froom T′.mir l₁₁ 0) ∷ ‵ (fdies T′.mir l₁₁) ∷ ‵ (froom word l₁₀ 0) ∷ ‵ (fdies word l₁₀) ∷ ‵ (froom G′.mir l₉ 0) ∷ ‵ (fdies G′.mir l₉) ∷ ‵ (froom word l₈ 0) ∷ ‵ (fdies word l₈) ∷ ‵ (froom N′.mir l₇ 0) ∷ ‵ (fdies N′.mir l₇) ∷ ‵ (froom tyBool l₆ 0) ∷ ‵ (fdies tyBool l₆) ∷ ‵ (fat fullShare slice-s l₅ 0 (val-s)) ∷ ‵ (fdies slice-s l₅) ∷ ‵ (fat fullShare word l₄ 0 (vint w64 n)) ∷ ‵ (fdies word l₄) ∷ ‵ (fat fullShare slice-w l₃ 0 (val-w)) ∷ ‵ (fdies slice-w l₃) ∷ ‵ (fat fullShare word l₂ 0 (vint w64 m)) ∷ ‵ (fdies word l₂) ∷ ‵ (fat fullShare slice-g l₁ 0 (val-g)) ∷ ‵ (fdies slice-g l₁) ∷ ‵ (froom A′.mir l₀ 0) ∷ ‵ (fdies A′.mir l₀) ∷ []) (runs C Λ En mirᶠ.t-26 (atRet En Post))
+      answers i j y d is-x =
+          calls-answer ! y is-x (and-then ! (load ! (from ! (stop !)) (look ! 43 refl)) (no-more !)) (λ r e u is.
           land ! (from ! (stop !)) (init ! 66 refl (LL.lawful A₀.the-type A′.the-laws 𝓤 H A W .typed r _ is .0)) $
           rewrite ! 66 (λ (z : Val). ‵ (fat fullShare A′.mir l₀ 0 (z))) (ap only (LL.tells A₀.the-type A′.the-laws r _ is)) refl $
           returns ! (look ! 66 refl) $ forget ! 42 refl $ forget ! 56 refl $ forget ! 58 refl $ forget ! 60 refl $ forget ! 62 refl $ forget ! 64 refl $ forget ! 66 refl $
           move ! (66 ∷ 67 ∷ []) $ free1 ! $ move ! (64 ∷ 65 ∷ []) $ free1 ! $ move ! (62 ∷ 63 ∷ []) $ free1 ! $ move ! (60 ∷ 61 ∷ []) $ free1 ! $ move ! (58 ∷ 59 ∷ []) $ free1 ! $ move ! (56 ∷ 57 ∷ []) $ free1 ! $ move ! (54 ∷ 55 ∷ []) $ free1 ! $ move ! (52 ∷ 53 ∷ []) $ free1 ! $ move ! (50 ∷ 51 ∷ []) $ free1 ! $ move ! (48 ∷ 49 ∷ []) $ free1 ! $ move ! (46 ∷ 47 ∷ []) $ free1 ! $ move ! (44 ∷ 45 ∷ []) $ free1 ! $ move ! (42 ∷ 43 ∷ []) $ free1 ! $ move ! (40 ∷ 41 ∷ []) $ free1 ! $ move ! (38 ∷ 39 ∷ []) $ free1 ! $ move ! (36 ∷ 37 ∷ []) $ free1 ! $ move ! (34 ∷ 35 ∷ []) $ free1 ! $ move ! (32 ∷ 33 ∷ []) $ free1 ! $ move ! (30 ∷ 31 ∷ []) $ free1 ! $ move ! (28 ∷ 29 ∷ []) $ free1 ! $ move ! (26 ∷ 27 ∷ []) $ free1 ! $ move ! (24 ∷ 25 ∷ []) $ free1 ! $ move ! (22 ∷ 23 ∷ []) $ free1 ! $ move ! (20 ∷ 21 ∷ []) $ free1 ! $ move ! (18 ∷ 19 ∷ []) $ free1 ! $ move ! (16 ∷ 17 ∷ []) $ free1 ! $ move ! (14 ∷ 15 ∷ []) $ free1 ! $ move ! (12 ∷ 13 ∷ []) $ free1 ! $ move ! (10 ∷ 11 ∷ []) $ free1 ! $ move ! (8 ∷ 9 ∷ []) $ free1 ! $ free0 ! $
-          by ! (exits (set gs i (x′ .registry)) (set ws j (x′ .row)) r (subst (λ (z : Applied). Done gs m ws n s (set gs i (x′ .registry)) (set ws j (x′ .row)) z) (sym e) d) (subst (λ (vs : List Val). Is A₀.the-row r vs) (LL.tells A₀.the-type A′.the-laws r _ is) is)))
+          by ! (exits (set gs i (y .registry)) (set ws j (y .row)) r (subst (λ (z : Applied). Done gs m ws n s (set gs i (y .registry)) (set ws j (y .row)) z) (sym e) d) (subst (λ (vs : List Val). Is A₀.the-row r vs) (LL.tells A₀.the-type A′.the-laws r _ is) is)))
 
       -- from the call of `store_row` on
-      keeps : (i : ℕ) → (f-i : i < 2 ^ 64) → (j : ℕ) → (f-j : j < 2 ^ 64) → (x′ : Next) → (d : Reached i j x′) → (is-x : IsNext x′) → Sq W (‵ (ObsG (set gs i (x′ .registry))) ∷ ‵ (BorG (set gs i (x′ .registry))) ∷ ‵ (flft κ q) ∷ ‵ (ObsW ws) ∷ ‵ (BorW ws) ∷ ‵ (flft κ′ q′) ∷ ‵ (flft κ″ q″) ∷ ‵ Own ∷ ‵ (froom (sliceTy mref-w) l₂₉ 0) ∷ ‵ (fdies (sliceTy mref-w) l₂₉) ∷ ‵ (froom mref-w l₂₈ 0) ∷ ‵ (fdies mref-w l₂₈) ∷ ‵ (froom (sliceTy mref-g) l₂₇ 0) ∷ ‵ (fdies (sliceTy mref-g) l₂₇) ∷ ‵ (froom mref-g l₂₆ 0) ∷ ‵ (fdies mref-g l₂₆) ∷ ‵ (froom tyUnit l₂₅ 0) ∷ ‵ (fdies tyUnit l₂₅) ∷ ‵ (froom (sliceTy sref-w) l₂₄ 0) ∷ ‵ (fdies (sliceTy sref-w) l₂₄) ∷ ‵ (froom sref-w l₂₃ 0) ∷ ‵ (fdies sref-w l₂₃) ∷ ‵ (froom (sliceTy sref-w) l₂₂ 0) ∷ ‵ (fdies (sliceTy sref-w) l₂₂) ∷ ‵ (froom sref-w l₂₁ 0) ∷ ‵ (fdies sref-w l₂₁) ∷ ‵ (froom (sliceTy sref-g) l₂₀ 0) ∷ ‵ (fdies (sliceTy sref-g) l₂₀) ∷ ‵ (froom sref-g l₁₉ 0) ∷ ‵ (fdies sref-g l₁₉) ∷ ‵ (froom (sliceTy sref-g) l₁₈ 0) ∷ ‵ (fdies (sliceTy sref-g) l₁₈) ∷ ‵ (froom sref-g l₁₇ 0) ∷ ‵ (fdies sref-g l₁₇) ∷ ‵ (froom (sliceTy sref-w) l₁₆ 0) ∷ ‵ (fdies (sliceTy sref-w) l₁₆) ∷ ‵ (froom sref-w l₁₅ 0) ∷ ‵ (fdies sref-w l₁₅) ∷ ‵ (froom (sliceTy sref-g) l₁₄ 0) ∷ ‵ (fdies (sliceTy sref-g) l₁₄) ∷ ‵ (froom sref-g l₁₃ 0) ∷ ‵ (fdies sref-g l₁₃) ∷ ‵ (fat fullShare X′.mir l₁₂ 0 (LL.val X.the-type X′.the-laws x′)) ∷ ‵ (fdies X′.mir l₁₂) ∷ ‵ (froom T′.mir l₁₁ 0) ∷ ‵ (fdies T′.mir l₁₁) ∷ ‵ (fat fullShare word l₁₀ 0 (vint w64 j)) ∷ ‵ (fdies word l₁₀) ∷ ‵ (froom G′.mir l₉ 0) ∷ ‵ (fdies G′.mir l₉) ∷ ‵ (fat fullShare word l₈ 0 (vint w64 i)) ∷ ‵ (fdies word l₈) ∷ ‵ (froom N′.mir l₇ 0) ∷ ‵ (fdies N′.mir l₇) ∷ ‵ (froom tyBool l₆ 0) ∷ ‵ (fdies tyBool l₆) ∷ ‵ (fat fullShare slice-s l₅ 0 (val-s)) ∷ ‵ (fdies slice-s l₅) ∷ ‵ (fat fullShare word l₄ 0 (vint w64 n)) ∷ ‵ (fdies word l₄) ∷ ‵ (fat fullShare slice-w l₃ 0 (val-w)) ∷ ‵ (fdies slice-w l₃) ∷ ‵ (fat fullShare word l₂ 0 (vint w64 m)) ∷ ‵ (fdies word l₂) ∷ ‵ (fat fullShare slice-g l₁ 0 (val-g)) ∷ ‵ (fdies slice-g l₁) ∷ ‵ (froom A′.mir l₀ 0) ∷ ‵ (fdies A′.mir l₀) ∷ []) (runs C Λ En mirᶠ.t-23 (atRet En Post))
-      keeps i f-i j f-j x′ d is-x =
+      keeps : (i : ℕ) → (f-i : i < 2 ^ 64) → (j : ℕ) → (f-j : j < 2 ^ 64) → (y : Next) → (d : Reached i j y) → (is-x : IsNext y) → Sq W (‵ (ObsG (set gs i (y .registry))) ∷ ‵ (BorG (set gs i (y .registry))) ∷ ‵ (flft κ q) ∷ ‵ (ObsW ws) ∷ ‵ (BorW ws) ∷ ‵ (flft κ′ q′) ∷ ‵ (flft κ″ q″) ∷ ‵ Own ∷ ‵ (froom (sliceTy mref-w) l₂₉ 0) ∷ ‵ (fdies (sliceTy mref-w) l₂₉) ∷ ‵ (froom mref-w l₂₈ 0) ∷ ‵ (fdies mref-w l₂₈) ∷ ‵ (froom (sliceTy mref-g) l₂₇ 0) ∷ ‵ (fdies (sliceTy mref-g) l₂₇) ∷ ‵ (froom mref-g l₂₆ 0) ∷ ‵ (fdies mref-g l₂₆) ∷ ‵ (froom tyUnit l₂₅ 0) ∷ ‵ (fdies tyUnit l₂₅) ∷ ‵ (froom (sliceTy sref-w) l₂₄ 0) ∷ ‵ (fdies (sliceTy sref-w) l₂₄) ∷ ‵ (froom sref-w l₂₃ 0) ∷ ‵ (fdies sref-w l₂₃) ∷ ‵ (froom (sliceTy sref-w) l₂₂ 0) ∷ ‵ (fdies (sliceTy sref-w) l₂₂) ∷ ‵ (froom sref-w l₂₁ 0) ∷ ‵ (fdies sref-w l₂₁) ∷ ‵ (froom (sliceTy sref-g) l₂₀ 0) ∷ ‵ (fdies (sliceTy sref-g) l₂₀) ∷ ‵ (froom sref-g l₁₉ 0) ∷ ‵ (fdies sref-g l₁₉) ∷ ‵ (froom (sliceTy sref-g) l₁₈ 0) ∷ ‵ (fdies (sliceTy sref-g) l₁₈) ∷ ‵ (froom sref-g l₁₇ 0) ∷ ‵ (fdies sref-g l₁₇) ∷ ‵ (froom (sliceTy sref-w) l₁₆ 0) ∷ ‵ (fdies (sliceTy sref-w) l₁₆) ∷ ‵ (froom sref-w l₁₅ 0) ∷ ‵ (fdies sref-w l₁₅) ∷ ‵ (froom (sliceTy sref-g) l₁₄ 0) ∷ ‵ (fdies (sliceTy sref-g) l₁₄) ∷ ‵ (froom sref-g l₁₃ 0) ∷ ‵ (fdies sref-g l₁₃) ∷ ‵ (fat fullShare X′.mir l₁₂ 0 (LL.val X.the-type X′.the-laws y)) ∷ ‵ (fdies X′.mir l₁₂) ∷ ‵ (froom T′.mir l₁₁ 0) ∷ ‵ (fdies T′.mir l₁₁) ∷ ‵ (fat fullShare word l₁₀ 0 (vint w64 j)) ∷ ‵ (fdies word l₁₀) ∷ ‵ (froom G′.mir l₉ 0) ∷ ‵ (fdies G′.mir l₉) ∷ ‵ (fat fullShare word l₈ 0 (vint w64 i)) ∷ ‵ (fdies word l₈) ∷ ‵ (froom N′.mir l₇ 0) ∷ ‵ (fdies N′.mir l₇) ∷ ‵ (froom tyBool l₆ 0) ∷ ‵ (fdies tyBool l₆) ∷ ‵ (fat fullShare slice-s l₅ 0 (val-s)) ∷ ‵ (fdies slice-s l₅) ∷ ‵ (fat fullShare word l₄ 0 (vint w64 n)) ∷ ‵ (fdies word l₄) ∷ ‵ (fat fullShare slice-w l₃ 0 (val-w)) ∷ ‵ (fdies slice-w l₃) ∷ ‵ (fat fullShare word l₂ 0 (vint w64 m)) ∷ ‵ (fdies word l₂) ∷ ‵ (fat fullShare slice-g l₁ 0 (val-g)) ∷ ‵ (fdies slice-g l₁) ∷ ‵ (froom A′.mir l₀ 0) ∷ ‵ (fdies A′.mir l₀) ∷ []) (runs C Λ En mirᶠ.t-23 (atRet En Post))
+      keeps i f-i j f-j y d is-x =
           assigns ! (addr ! (from ! (fld ! refl (hop ! (look-in ! 60 (sub ! 0 refl (whole !))) (stop !))))) (from ! (stop !)) (init ! 10 refl (tt, tt)) $
           assigns ! (agg ! (and-then ! (load ! (from ! (stop !)) (look ! 10 refl)) (and-then ! (load ! (from ! (fld ! refl (stop !))) (look-in ! 60 (sub ! 1 refl (whole !)))) (no-more !)))) (from ! (stop !)) (init ! 8 refl (tt, (tt, (record { fits = room-w .0 }, tt)))) $
           move ! (3 ∷ 4 ∷ 5 ∷ []) $
-          calls-keep ! j f-j x′ is-x (λ ν δ-w. and-then ! (load ! (from ! (stop !)) (look ! 7 refl)) (and-then ! (load ! (from ! (stop !)) (look ! 45 refl)) (and-then ! (load ! (from ! (fld ! {τ = T′.mir} {d = 864} refl (stop !))) (look-in ! 41 (sub ! 3 {τ = T′.mir} {d = 864} refl (whole !)))) (no-more !)))) (λ r u is.
+          calls-keep ! j f-j y is-x (λ ν δ-w. and-then ! (load ! (from ! (stop !)) (look ! 7 refl)) (and-then ! (load ! (from ! (stop !)) (look ! 45 refl)) (and-then ! (load ! (from ! (fld ! {τ = T′.mir} {d = 864} refl (stop !))) (look-in ! 41 (sub ! 3 {τ = T′.mir} {d = 864} refl (whole !)))) (no-more !)))) (λ r u is.
           land ! (from ! (stop !)) (init ! 16 refl (nothing-lawful 𝓤 H A W .typed r _ is .0)) $
           move ! (3 ∷ 4 ∷ 5 ∷ 0 ∷ 1 ∷ 2 ∷ 6 ∷ 7 ∷ []) $
           forget ! 8 refl $ forget ! 10 refl $ forget ! 16 refl $ forget ! 46 refl $ forget ! 50 refl $
-          answers i j x′ d is-x)
+          answers i j y d is-x)
 
       -- from the call of `store_registry` on
-      puts : (i : ℕ) → (f-i : i < 2 ^ 64) → (j : ℕ) → (f-j : j < 2 ^ 64) → (x′ : Next) → (d : Reached i j x′) → (is-x : IsNext x′) → Sq W (‵ (ObsG gs) ∷ ‵ (BorG gs) ∷ ‵ (flft κ q) ∷ ‵ (ObsW ws) ∷ ‵ (BorW ws) ∷ ‵ (flft κ′ q′) ∷ ‵ (flft κ″ q″) ∷ ‵ Own ∷ ‵ (froom (sliceTy mref-w) l₂₉ 0) ∷ ‵ (fdies (sliceTy mref-w) l₂₉) ∷ ‵ (froom mref-w l₂₈ 0) ∷ ‵ (fdies mref-w l₂₈) ∷ ‵ (froom (sliceTy mref-g) l₂₇ 0) ∷ ‵ (fdies (sliceTy mref-g) l₂₇) ∷ ‵ (froom mref-g l₂₆ 0) ∷ ‵ (fdies mref-g l₂₆) ∷ ‵ (froom tyUnit l₂₅ 0) ∷ ‵ (fdies tyUnit l₂₅) ∷ ‵ (froom (sliceTy sref-w) l₂₄ 0) ∷ ‵ (fdies (sliceTy sref-w) l₂₄) ∷ ‵ (froom sref-w l₂₃ 0) ∷ ‵ (fdies sref-w l₂₃) ∷ ‵ (froom (sliceTy sref-w) l₂₂ 0) ∷ ‵ (fdies (sliceTy sref-w) l₂₂) ∷ ‵ (froom sref-w l₂₁ 0) ∷ ‵ (fdies sref-w l₂₁) ∷ ‵ (froom (sliceTy sref-g) l₂₀ 0) ∷ ‵ (fdies (sliceTy sref-g) l₂₀) ∷ ‵ (froom sref-g l₁₉ 0) ∷ ‵ (fdies sref-g l₁₉) ∷ ‵ (froom (sliceTy sref-g) l₁₈ 0) ∷ ‵ (fdies (sliceTy sref-g) l₁₈) ∷ ‵ (froom sref-g l₁₇ 0) ∷ ‵ (fdies sref-g l₁₇) ∷ ‵ (froom (sliceTy sref-w) l₁₆ 0) ∷ ‵ (fdies (sliceTy sref-w) l₁₆) ∷ ‵ (froom sref-w l₁₅ 0) ∷ ‵ (fdies sref-w l₁₅) ∷ ‵ (froom (sliceTy sref-g) l₁₄ 0) ∷ ‵ (fdies (sliceTy sref-g) l₁₄) ∷ ‵ (froom sref-g l₁₃ 0) ∷ ‵ (fdies sref-g l₁₃) ∷ ‵ (fat fullShare X′.mir l₁₂ 0 (LL.val X.the-type X′.the-laws x′)) ∷ ‵ (fdies X′.mir l₁₂) ∷ ‵ (froom T′.mir l₁₁ 0) ∷ ‵ (fdies T′.mir l₁₁) ∷ ‵ (fat fullShare word l₁₀ 0 (vint w64 j)) ∷ ‵ (fdies word l₁₀) ∷ ‵ (froom G′.mir l₉ 0) ∷ ‵ (fdies G′.mir l₉) ∷ ‵ (fat fullShare word l₈ 0 (vint w64 i)) ∷ ‵ (fdies word l₈) ∷ ‵ (froom N′.mir l₇ 0) ∷ ‵ (fdies N′.mir l₇) ∷ ‵ (froom tyBool l₆ 0) ∷ ‵ (fdies tyBool l₆) ∷ ‵ (fat fullShare slice-s l₅ 0 (val-s)) ∷ ‵ (fdies slice-s l₅) ∷ ‵ (fat fullShare word l₄ 0 (vint w64 n)) ∷ ‵ (fdies word l₄) ∷ ‵ (fat fullShare slice-w l₃ 0 (val-w)) ∷ ‵ (fdies slice-w l₃) ∷ ‵ (fat fullShare word l₂ 0 (vint w64 m)) ∷ ‵ (fdies word l₂) ∷ ‵ (fat fullShare slice-g l₁ 0 (val-g)) ∷ ‵ (fdies slice-g l₁) ∷ ‵ (froom A′.mir l₀ 0) ∷ ‵ (fdies A′.mir l₀) ∷ []) (runs C Λ En mirᶠ.t-20 (atRet En Post))
-      puts i f-i j f-j x′ d is-x =
+      puts : (i : ℕ) → (f-i : i < 2 ^ 64) → (j : ℕ) → (f-j : j < 2 ^ 64) → (y : Next) → (d : Reached i j y) → (is-x : IsNext y) → Sq W (‵ (ObsG gs) ∷ ‵ (BorG gs) ∷ ‵ (flft κ q) ∷ ‵ (ObsW ws) ∷ ‵ (BorW ws) ∷ ‵ (flft κ′ q′) ∷ ‵ (flft κ″ q″) ∷ ‵ Own ∷ ‵ (froom (sliceTy mref-w) l₂₉ 0) ∷ ‵ (fdies (sliceTy mref-w) l₂₉) ∷ ‵ (froom mref-w l₂₈ 0) ∷ ‵ (fdies mref-w l₂₈) ∷ ‵ (froom (sliceTy mref-g) l₂₇ 0) ∷ ‵ (fdies (sliceTy mref-g) l₂₇) ∷ ‵ (froom mref-g l₂₆ 0) ∷ ‵ (fdies mref-g l₂₆) ∷ ‵ (froom tyUnit l₂₅ 0) ∷ ‵ (fdies tyUnit l₂₅) ∷ ‵ (froom (sliceTy sref-w) l₂₄ 0) ∷ ‵ (fdies (sliceTy sref-w) l₂₄) ∷ ‵ (froom sref-w l₂₃ 0) ∷ ‵ (fdies sref-w l₂₃) ∷ ‵ (froom (sliceTy sref-w) l₂₂ 0) ∷ ‵ (fdies (sliceTy sref-w) l₂₂) ∷ ‵ (froom sref-w l₂₁ 0) ∷ ‵ (fdies sref-w l₂₁) ∷ ‵ (froom (sliceTy sref-g) l₂₀ 0) ∷ ‵ (fdies (sliceTy sref-g) l₂₀) ∷ ‵ (froom sref-g l₁₉ 0) ∷ ‵ (fdies sref-g l₁₉) ∷ ‵ (froom (sliceTy sref-g) l₁₈ 0) ∷ ‵ (fdies (sliceTy sref-g) l₁₈) ∷ ‵ (froom sref-g l₁₇ 0) ∷ ‵ (fdies sref-g l₁₇) ∷ ‵ (froom (sliceTy sref-w) l₁₆ 0) ∷ ‵ (fdies (sliceTy sref-w) l₁₆) ∷ ‵ (froom sref-w l₁₅ 0) ∷ ‵ (fdies sref-w l₁₅) ∷ ‵ (froom (sliceTy sref-g) l₁₄ 0) ∷ ‵ (fdies (sliceTy sref-g) l₁₄) ∷ ‵ (froom sref-g l₁₃ 0) ∷ ‵ (fdies sref-g l₁₃) ∷ ‵ (fat fullShare X′.mir l₁₂ 0 (LL.val X.the-type X′.the-laws y)) ∷ ‵ (fdies X′.mir l₁₂) ∷ ‵ (froom T′.mir l₁₁ 0) ∷ ‵ (fdies T′.mir l₁₁) ∷ ‵ (fat fullShare word l₁₀ 0 (vint w64 j)) ∷ ‵ (fdies word l₁₀) ∷ ‵ (froom G′.mir l₉ 0) ∷ ‵ (fdies G′.mir l₉) ∷ ‵ (fat fullShare word l₈ 0 (vint w64 i)) ∷ ‵ (fdies word l₈) ∷ ‵ (froom N′.mir l₇ 0) ∷ ‵ (fdies N′.mir l₇) ∷ ‵ (froom tyBool l₆ 0) ∷ ‵ (fdies tyBool l₆) ∷ ‵ (fat fullShare slice-s l₅ 0 (val-s)) ∷ ‵ (fdies slice-s l₅) ∷ ‵ (fat fullShare word l₄ 0 (vint w64 n)) ∷ ‵ (fdies word l₄) ∷ ‵ (fat fullShare slice-w l₃ 0 (val-w)) ∷ ‵ (fdies slice-w l₃) ∷ ‵ (fat fullShare word l₂ 0 (vint w64 m)) ∷ ‵ (fdies word l₂) ∷ ‵ (fat fullShare slice-g l₁ 0 (val-g)) ∷ ‵ (fdies slice-g l₁) ∷ ‵ (froom A′.mir l₀ 0) ∷ ‵ (fdies A′.mir l₀) ∷ []) (runs C Λ En mirᶠ.t-20 (atRet En Post))
+      puts i f-i j f-j y d is-x =
           assigns ! (addr ! (from ! (fld ! refl (hop ! (look-in ! 64 (sub ! 0 refl (whole !))) (stop !))))) (from ! (stop !)) (init ! 14 refl (tt, tt)) $
           assigns ! (agg ! (and-then ! (load ! (from ! (stop !)) (look ! 14 refl)) (and-then ! (load ! (from ! (fld ! refl (stop !))) (look-in ! 64 (sub ! 1 refl (whole !)))) (no-more !)))) (from ! (stop !)) (init ! 12 refl (tt, (tt, (record { fits = room-g .0 }, tt)))) $
-          calls-put ! i f-i x′ is-x (λ ν δ-g. and-then ! (load ! (from ! (stop !)) (look ! 11 refl)) (and-then ! (load ! (from ! (stop !)) (look ! 49 refl)) (and-then ! (load ! (from ! (fld ! {τ = G′.mir} {d = 48} refl (stop !))) (look-in ! 41 (sub ! 1 {τ = G′.mir} {d = 48} refl (whole !)))) (no-more !)))) (λ r u is.
+          calls-put ! i f-i y is-x (λ ν δ-g. and-then ! (load ! (from ! (stop !)) (look ! 11 refl)) (and-then ! (load ! (from ! (stop !)) (look ! 49 refl)) (and-then ! (load ! (from ! (fld ! {τ = G′.mir} {d = 48} refl (stop !))) (look-in ! 41 (sub ! 1 {τ = G′.mir} {d = 48} refl (whole !)))) (no-more !)))) (λ r u is.
           land ! (from ! (stop !)) (init ! 16 refl (nothing-lawful 𝓤 H A W .typed r _ is .0)) $
           forget ! 12 refl $ forget ! 14 refl $ forget ! 16 refl $
-          keeps i f-i j f-j x′ d is-x)
+          keeps i f-i j f-j y d is-x)
 
       -- from the call of `next` on
-      steps : (ok : Bool) → (e-ok : ok ≡ sound l) → (k : Named) → (e-k : k ≡ namedOf (requestOf s)) → (is-k : IsNamed k) → (i : ℕ) → (e-i : i ≡ findRegistry gs m (k .registry)) → (f-i : i < 2 ^ 64) → (g : RegistryState) → (e-g : Read i g) → (is-g : IsRegistry g) → (j : ℕ) → (e-j : j ≡ findAt ws n (k .registry) (k .credential)) → (f-j : j < 2 ^ 64) → (w : CredentialState) → (e-w : w ≡ rowAt ws j) → (is-w : IsRow w) → Sq W (‵ (ObsG gs) ∷ ‵ (BorG gs) ∷ ‵ (flft κ q) ∷ ‵ (ObsW ws) ∷ ‵ (BorW ws) ∷ ‵ (flft κ′ q′) ∷ ‵ (flft κ″ q″) ∷ ‵ Own ∷ ‵ (froom (sliceTy mref-w) l₂₉ 0) ∷ ‵ (fdies (sliceTy mref-w) l₂₉) ∷ ‵ (froom mref-w l₂₈ 0) ∷ ‵ (fdies mref-w l₂₈) ∷ ‵ (froom (sliceTy mref-g) l₂₇ 0) ∷ ‵ (fdies (sliceTy mref-g) l₂₇) ∷ ‵ (froom mref-g l₂₆ 0) ∷ ‵ (fdies mref-g l₂₆) ∷ ‵ (froom tyUnit l₂₅ 0) ∷ ‵ (fdies tyUnit l₂₅) ∷ ‵ (froom (sliceTy sref-w) l₂₄ 0) ∷ ‵ (fdies (sliceTy sref-w) l₂₄) ∷ ‵ (froom sref-w l₂₃ 0) ∷ ‵ (fdies sref-w l₂₃) ∷ ‵ (froom (sliceTy sref-w) l₂₂ 0) ∷ ‵ (fdies (sliceTy sref-w) l₂₂) ∷ ‵ (froom sref-w l₂₁ 0) ∷ ‵ (fdies sref-w l₂₁) ∷ ‵ (froom (sliceTy sref-g) l₂₀ 0) ∷ ‵ (fdies (sliceTy sref-g) l₂₀) ∷ ‵ (froom sref-g l₁₉ 0) ∷ ‵ (fdies sref-g l₁₉) ∷ ‵ (froom (sliceTy sref-g) l₁₈ 0) ∷ ‵ (fdies (sliceTy sref-g) l₁₈) ∷ ‵ (froom sref-g l₁₇ 0) ∷ ‵ (fdies sref-g l₁₇) ∷ ‵ (froom (sliceTy sref-w) l₁₆ 0) ∷ ‵ (fdies (sliceTy sref-w) l₁₆) ∷ ‵ (froom sref-w l₁₅ 0) ∷ ‵ (fdies sref-w l₁₅) ∷ ‵ (froom (sliceTy sref-g) l₁₄ 0) ∷ ‵ (fdies (sliceTy sref-g) l₁₄) ∷ ‵ (froom sref-g l₁₃ 0) ∷ ‵ (fdies sref-g l₁₃) ∷ ‵ (froom X′.mir l₁₂ 0) ∷ ‵ (fdies X′.mir l₁₂) ∷ ‵ (fat fullShare T′.mir l₁₁ 0 (T′.lowered w)) ∷ ‵ (fdies T′.mir l₁₁) ∷ ‵ (fat fullShare word l₁₀ 0 (vint w64 j)) ∷ ‵ (fdies word l₁₀) ∷ ‵ (fat fullShare G′.mir l₉ 0 (LL.val G.the-type G′.the-laws g)) ∷ ‵ (fdies G′.mir l₉) ∷ ‵ (fat fullShare word l₈ 0 (vint w64 i)) ∷ ‵ (fdies word l₈) ∷ ‵ (fat fullShare N′.mir l₇ 0 (N′.lowered k)) ∷ ‵ (fdies N′.mir l₇) ∷ ‵ (fat fullShare tyBool l₆ 0 (vbool ok)) ∷ ‵ (fdies tyBool l₆) ∷ ‵ (fat fullShare slice-s l₅ 0 (val-s)) ∷ ‵ (fdies slice-s l₅) ∷ ‵ (fat fullShare word l₄ 0 (vint w64 n)) ∷ ‵ (fdies word l₄) ∷ ‵ (fat fullShare slice-w l₃ 0 (val-w)) ∷ ‵ (fdies slice-w l₃) ∷ ‵ (fat fullShare word l₂ 0 (vint w64 m)) ∷ ‵ (fdies word l₂) ∷ ‵ (fat fullShare slice-g l₁ 0 (val-g)) ∷ ‵ (fdies slice-g l₁) ∷ ‵ (froom A′.mir l₀ 0) ∷ ‵ (fdies A′.mir l₀) ∷ []) (runs C Λ En mirᶠ.t-19 (atRet En Post))
+      steps : (ok : Bool) → (e-ok : ok ≡ sound l) → (k : Named) → (e-k : k ≡ namedOf (requestOf s)) → (is-k : IsNamed k) → (i : ℕ) → (e-i : i ≡ findRegistry gs m (k .registry)) → (f-i : i < 2 ^ 64) → (g : RegistryState) → (e-g : (i < length gs → g ≡ getD gs i blank)) → (is-g : IsRegistry g) → (j : ℕ) → (e-j : j ≡ findAt ws n (k .registry) (k .credential)) → (f-j : j < 2 ^ 64) → (w : CredentialState) → (e-w : w ≡ rowAt ws j) → (is-w : IsRow w) → Sq W (‵ (ObsG gs) ∷ ‵ (BorG gs) ∷ ‵ (flft κ q) ∷ ‵ (ObsW ws) ∷ ‵ (BorW ws) ∷ ‵ (flft κ′ q′) ∷ ‵ (flft κ″ q″) ∷ ‵ Own ∷ ‵ (froom (sliceTy mref-w) l₂₉ 0) ∷ ‵ (fdies (sliceTy mref-w) l₂₉) ∷ ‵ (froom mref-w l₂₈ 0) ∷ ‵ (fdies mref-w l₂₈) ∷ ‵ (froom (sliceTy mref-g) l₂₇ 0) ∷ ‵ (fdies (sliceTy mref-g) l₂₇) ∷ ‵ (froom mref-g l₂₆ 0) ∷ ‵ (fdies mref-g l₂₆) ∷ ‵ (froom tyUnit l₂₅ 0) ∷ ‵ (fdies tyUnit l₂₅) ∷ ‵ (froom (sliceTy sref-w) l₂₄ 0) ∷ ‵ (fdies (sliceTy sref-w) l₂₄) ∷ ‵ (froom sref-w l₂₃ 0) ∷ ‵ (fdies sref-w l₂₃) ∷ ‵ (froom (sliceTy sref-w) l₂₂ 0) ∷ ‵ (fdies (sliceTy sref-w) l₂₂) ∷ ‵ (froom sref-w l₂₁ 0) ∷ ‵ (fdies sref-w l₂₁) ∷ ‵ (froom (sliceTy sref-g) l₂₀ 0) ∷ ‵ (fdies (sliceTy sref-g) l₂₀) ∷ ‵ (froom sref-g l₁₉ 0) ∷ ‵ (fdies sref-g l₁₉) ∷ ‵ (froom (sliceTy sref-g) l₁₈ 0) ∷ ‵ (fdies (sliceTy sref-g) l₁₈) ∷ ‵ (froom sref-g l₁₇ 0) ∷ ‵ (fdies sref-g l₁₇) ∷ ‵ (froom (sliceTy sref-w) l₁₆ 0) ∷ ‵ (fdies (sliceTy sref-w) l₁₆) ∷ ‵ (froom sref-w l₁₅ 0) ∷ ‵ (fdies sref-w l₁₅) ∷ ‵ (froom (sliceTy sref-g) l₁₄ 0) ∷ ‵ (fdies (sliceTy sref-g) l₁₄) ∷ ‵ (froom sref-g l₁₃ 0) ∷ ‵ (fdies sref-g l₁₃) ∷ ‵ (froom X′.mir l₁₂ 0) ∷ ‵ (fdies X′.mir l₁₂) ∷ ‵ (fat fullShare T′.mir l₁₁ 0 (T′.lowered w)) ∷ ‵ (fdies T′.mir l₁₁) ∷ ‵ (fat fullShare word l₁₀ 0 (vint w64 j)) ∷ ‵ (fdies word l₁₀) ∷ ‵ (fat fullShare G′.mir l₉ 0 (LL.val G.the-type G′.the-laws g)) ∷ ‵ (fdies G′.mir l₉) ∷ ‵ (fat fullShare word l₈ 0 (vint w64 i)) ∷ ‵ (fdies word l₈) ∷ ‵ (fat fullShare N′.mir l₇ 0 (N′.lowered k)) ∷ ‵ (fdies N′.mir l₇) ∷ ‵ (fat fullShare tyBool l₆ 0 (vbool ok)) ∷ ‵ (fdies tyBool l₆) ∷ ‵ (fat fullShare slice-s l₅ 0 (val-s)) ∷ ‵ (fdies slice-s l₅) ∷ ‵ (fat fullShare word l₄ 0 (vint w64 n)) ∷ ‵ (fdies word l₄) ∷ ‵ (fat fullShare slice-w l₃ 0 (val-w)) ∷ ‵ (fdies slice-w l₃) ∷ ‵ (fat fullShare word l₂ 0 (vint w64 m)) ∷ ‵ (fdies word l₂) ∷ ‵ (fat fullShare slice-g l₁ 0 (val-g)) ∷ ‵ (fdies slice-g l₁) ∷ ‵ (froom A′.mir l₀ 0) ∷ ‵ (fdies A′.mir l₀) ∷ []) (runs C Λ En mirᶠ.t-19 (atRet En Post))
       steps ok e-ok k e-k is-k i e-i f-i g e-g is-g j e-j f-j w e-w is-w =
           move ! (6 ∷ 7 ∷ []) $
           calls-step ! ok k is-k i f-i g is-g j f-j w is-w (and-then ! (load ! (from ! (stop !)) (look ! 54 refl)) (and-then ! (load ! (from ! (stop !)) (look ! 56 refl)) (and-then ! (load ! (from ! (stop !)) (look ! 52 refl)) (and-then ! (load ! (from ! (stop !)) (look ! 50 refl)) (and-then ! (load ! (from ! (stop !)) (look ! 62 refl)) (and-then ! (load ! (from ! (stop !)) (look ! 48 refl)) (and-then ! (load ! (from ! (stop !)) (look ! 46 refl)) (and-then ! (load ! (from ! (stop !)) (look ! 58 refl)) (and-then ! (load ! (from ! (stop !)) (look ! 44 refl)) (no-more !)))))))))) (λ r e u is.
@@ -661,10 +659,10 @@ module _ {M : Type 1} (𝓤 : URA M) (H : Heap 𝓤) (A : Atoms 𝓤) (W : Given
           rewrite ! 42 (λ (z : Val). ‵ (fat fullShare X′.mir l₁₂ 0 (z))) (ap only (LL.tells X.the-type X′.the-laws r _ is)) refl $
           move ! (2 ∷ 3 ∷ 4 ∷ 5 ∷ 6 ∷ 7 ∷ 0 ∷ 1 ∷ []) $
           forget ! 44 refl $ forget ! 48 refl $ forget ! 52 refl $ forget ! 54 refl $
-          puts i f-i j f-j r (reached gs m ws n s ok e-ok k e-k i e-i g (e-g .0) (e-g .1) j e-j w e-w r e) (subst (λ (vs : List Val). Is X.the-row r vs) (LL.tells X.the-type X′.the-laws r _ is) is))
+          puts i f-i j f-j r (reached gs m ws n s ok e-ok k e-k i e-i g e-g j e-j w e-w r e) (subst (λ (vs : List Val). Is X.the-row r vs) (LL.tells X.the-type X′.the-laws r _ is) is))
 
       -- from the call of `read_row` on
-      reads : (ok : Bool) → (e-ok : ok ≡ sound l) → (k : Named) → (e-k : k ≡ namedOf (requestOf s)) → (is-k : IsNamed k) → (i : ℕ) → (e-i : i ≡ findRegistry gs m (k .registry)) → (f-i : i < 2 ^ 64) → (g : RegistryState) → (e-g : Read i g) → (is-g : IsRegistry g) → (j : ℕ) → (e-j : j ≡ findAt ws n (k .registry) (k .credential)) → (f-j : j < 2 ^ 64) → Sq W (‵ (ObsG gs) ∷ ‵ (BorG gs) ∷ ‵ (flft κ q) ∷ ‵ (ObsW ws) ∷ ‵ (BorW ws) ∷ ‵ (flft κ′ q′) ∷ ‵ (flft κ″ q″) ∷ ‵ Own ∷ ‵ (froom (sliceTy mref-w) l₂₉ 0) ∷ ‵ (fdies (sliceTy mref-w) l₂₉) ∷ ‵ (froom mref-w l₂₈ 0) ∷ ‵ (fdies mref-w l₂₈) ∷ ‵ (froom (sliceTy mref-g) l₂₇ 0) ∷ ‵ (fdies (sliceTy mref-g) l₂₇) ∷ ‵ (froom mref-g l₂₆ 0) ∷ ‵ (fdies mref-g l₂₆) ∷ ‵ (froom tyUnit l₂₅ 0) ∷ ‵ (fdies tyUnit l₂₅) ∷ ‵ (froom (sliceTy sref-w) l₂₄ 0) ∷ ‵ (fdies (sliceTy sref-w) l₂₄) ∷ ‵ (froom sref-w l₂₃ 0) ∷ ‵ (fdies sref-w l₂₃) ∷ ‵ (froom (sliceTy sref-w) l₂₂ 0) ∷ ‵ (fdies (sliceTy sref-w) l₂₂) ∷ ‵ (froom sref-w l₂₁ 0) ∷ ‵ (fdies sref-w l₂₁) ∷ ‵ (froom (sliceTy sref-g) l₂₀ 0) ∷ ‵ (fdies (sliceTy sref-g) l₂₀) ∷ ‵ (froom sref-g l₁₉ 0) ∷ ‵ (fdies sref-g l₁₉) ∷ ‵ (froom (sliceTy sref-g) l₁₈ 0) ∷ ‵ (fdies (sliceTy sref-g) l₁₈) ∷ ‵ (froom sref-g l₁₇ 0) ∷ ‵ (fdies sref-g l₁₇) ∷ ‵ (froom (sliceTy sref-w) l₁₆ 0) ∷ ‵ (fdies (sliceTy sref-w) l₁₆) ∷ ‵ (froom sref-w l₁₅ 0) ∷ ‵ (fdies sref-w l₁₅) ∷ ‵ (froom (sliceTy sref-g) l₁₄ 0) ∷ ‵ (fdies (sliceTy sref-g) l₁₄) ∷ ‵ (froom sref-g l₁₃ 0) ∷ ‵ (fdies sref-g l₁₃) ∷ ‵ (froom X′.mir l₁₂ 0) ∷ ‵ (fdies X′.mir l₁₂) ∷ ‵ (froom T′.mir l₁₁ 0) ∷ ‵ (fdies T′.mir l₁₁) ∷ ‵ (fat fullShare word l₁₀ 0 (vint w64 j)) ∷ ‵ (fdies word l₁₀) ∷ ‵ (fat fullShare G′.mir l₉ 0 (LL.val G.the-type G′.the-laws g)) ∷ ‵ (fdies G′.mir l₉) ∷ ‵ (fat fullShare word l₈ 0 (vint w64 i)) ∷ ‵ (fdies word l₈) ∷ ‵ (fat fullShare N′.mir l₇ 0 (N′.lowered k)) ∷ ‵ (fdies N′.mir l₇) ∷ ‵ (fat fullShare tyBool l₆ 0 (vbool ok)) ∷ ‵ (fdies tyBool l₆) ∷ ‵ (fat fullShare slice-s l₅ 0 (val-s)) ∷ ‵ (fdies slice-s l₅) ∷ ‵ (fat fullShare word l₄ 0 (vint w64 n)) ∷ ‵ (fdies word l₄) ∷ ‵ (fat fullShare slice-w l₃ 0 (val-w)) ∷ ‵ (fdies slice-w l₃) ∷ ‵ (fat fullShare word l₂ 0 (vint w64 m)) ∷ ‵ (fdies word l₂) ∷ ‵ (fat fullShare slice-g l₁ 0 (val-g)) ∷ ‵ (fdies slice-g l₁) ∷ ‵ (froom A′.mir l₀ 0) ∷ ‵ (fdies A′.mir l₀) ∷ []) (runs C Λ En mirᶠ.t-16 (atRet En Post))
+      reads : (ok : Bool) → (e-ok : ok ≡ sound l) → (k : Named) → (e-k : k ≡ namedOf (requestOf s)) → (is-k : IsNamed k) → (i : ℕ) → (e-i : i ≡ findRegistry gs m (k .registry)) → (f-i : i < 2 ^ 64) → (g : RegistryState) → (e-g : (i < length gs → g ≡ getD gs i blank)) → (is-g : IsRegistry g) → (j : ℕ) → (e-j : j ≡ findAt ws n (k .registry) (k .credential)) → (f-j : j < 2 ^ 64) → Sq W (‵ (ObsG gs) ∷ ‵ (BorG gs) ∷ ‵ (flft κ q) ∷ ‵ (ObsW ws) ∷ ‵ (BorW ws) ∷ ‵ (flft κ′ q′) ∷ ‵ (flft κ″ q″) ∷ ‵ Own ∷ ‵ (froom (sliceTy mref-w) l₂₉ 0) ∷ ‵ (fdies (sliceTy mref-w) l₂₉) ∷ ‵ (froom mref-w l₂₈ 0) ∷ ‵ (fdies mref-w l₂₈) ∷ ‵ (froom (sliceTy mref-g) l₂₇ 0) ∷ ‵ (fdies (sliceTy mref-g) l₂₇) ∷ ‵ (froom mref-g l₂₆ 0) ∷ ‵ (fdies mref-g l₂₆) ∷ ‵ (froom tyUnit l₂₅ 0) ∷ ‵ (fdies tyUnit l₂₅) ∷ ‵ (froom (sliceTy sref-w) l₂₄ 0) ∷ ‵ (fdies (sliceTy sref-w) l₂₄) ∷ ‵ (froom sref-w l₂₃ 0) ∷ ‵ (fdies sref-w l₂₃) ∷ ‵ (froom (sliceTy sref-w) l₂₂ 0) ∷ ‵ (fdies (sliceTy sref-w) l₂₂) ∷ ‵ (froom sref-w l₂₁ 0) ∷ ‵ (fdies sref-w l₂₁) ∷ ‵ (froom (sliceTy sref-g) l₂₀ 0) ∷ ‵ (fdies (sliceTy sref-g) l₂₀) ∷ ‵ (froom sref-g l₁₉ 0) ∷ ‵ (fdies sref-g l₁₉) ∷ ‵ (froom (sliceTy sref-g) l₁₈ 0) ∷ ‵ (fdies (sliceTy sref-g) l₁₈) ∷ ‵ (froom sref-g l₁₇ 0) ∷ ‵ (fdies sref-g l₁₇) ∷ ‵ (froom (sliceTy sref-w) l₁₆ 0) ∷ ‵ (fdies (sliceTy sref-w) l₁₆) ∷ ‵ (froom sref-w l₁₅ 0) ∷ ‵ (fdies sref-w l₁₅) ∷ ‵ (froom (sliceTy sref-g) l₁₄ 0) ∷ ‵ (fdies (sliceTy sref-g) l₁₄) ∷ ‵ (froom sref-g l₁₃ 0) ∷ ‵ (fdies sref-g l₁₃) ∷ ‵ (froom X′.mir l₁₂ 0) ∷ ‵ (fdies X′.mir l₁₂) ∷ ‵ (froom T′.mir l₁₁ 0) ∷ ‵ (fdies T′.mir l₁₁) ∷ ‵ (fat fullShare word l₁₀ 0 (vint w64 j)) ∷ ‵ (fdies word l₁₀) ∷ ‵ (fat fullShare G′.mir l₉ 0 (LL.val G.the-type G′.the-laws g)) ∷ ‵ (fdies G′.mir l₉) ∷ ‵ (fat fullShare word l₈ 0 (vint w64 i)) ∷ ‵ (fdies word l₈) ∷ ‵ (fat fullShare N′.mir l₇ 0 (N′.lowered k)) ∷ ‵ (fdies N′.mir l₇) ∷ ‵ (fat fullShare tyBool l₆ 0 (vbool ok)) ∷ ‵ (fdies tyBool l₆) ∷ ‵ (fat fullShare slice-s l₅ 0 (val-s)) ∷ ‵ (fdies slice-s l₅) ∷ ‵ (fat fullShare word l₄ 0 (vint w64 n)) ∷ ‵ (fdies word l₄) ∷ ‵ (fat fullShare slice-w l₃ 0 (val-w)) ∷ ‵ (fdies slice-w l₃) ∷ ‵ (fat fullShare word l₂ 0 (vint w64 m)) ∷ ‵ (fdies word l₂) ∷ ‵ (fat fullShare slice-g l₁ 0 (val-g)) ∷ ‵ (fdies slice-g l₁) ∷ ‵ (froom A′.mir l₀ 0) ∷ ‵ (fdies A′.mir l₀) ∷ []) (runs C Λ En mirᶠ.t-16 (atRet En Post))
       reads ok e-ok k e-k is-k i e-i f-i g e-g is-g j e-j f-j =
           assigns ! (addr ! (from ! (fld ! refl (hop ! (look-in ! 60 (sub ! 0 refl (whole !))) (stop !))))) (from ! (stop !)) (init ! 20 refl (tt, tt)) $
           assigns ! (agg ! (and-then ! (load ! (from ! (stop !)) (look ! 20 refl)) (and-then ! (load ! (from ! (fld ! refl (stop !))) (look-in ! 60 (sub ! 1 refl (whole !)))) (no-more !)))) (from ! (stop !)) (init ! 18 refl (tt, (tt, (record { fits = room-w .0 }, tt)))) $
@@ -677,7 +675,7 @@ module _ {M : Type 1} (𝓤 : URA M) (H : Heap 𝓤) (A : Atoms 𝓤) (W : Given
           steps ok e-ok k e-k is-k i e-i f-i g e-g is-g j e-j f-j r e (subst (λ (vs : List Val). Is T.the-row r vs) (LL.tells T.the-type T′.the-laws r _ is) is))
 
       -- from the call of `find_at` on
-      finds : (ok : Bool) → (e-ok : ok ≡ sound l) → (k : Named) → (e-k : k ≡ namedOf (requestOf s)) → (is-k : IsNamed k) → (i : ℕ) → (e-i : i ≡ findRegistry gs m (k .registry)) → (f-i : i < 2 ^ 64) → (g : RegistryState) → (e-g : Read i g) → (is-g : IsRegistry g) → Sq W (‵ (ObsG gs) ∷ ‵ (BorG gs) ∷ ‵ (flft κ q) ∷ ‵ (ObsW ws) ∷ ‵ (BorW ws) ∷ ‵ (flft κ′ q′) ∷ ‵ (flft κ″ q″) ∷ ‵ Own ∷ ‵ (froom (sliceTy mref-w) l₂₉ 0) ∷ ‵ (fdies (sliceTy mref-w) l₂₉) ∷ ‵ (froom mref-w l₂₈ 0) ∷ ‵ (fdies mref-w l₂₈) ∷ ‵ (froom (sliceTy mref-g) l₂₇ 0) ∷ ‵ (fdies (sliceTy mref-g) l₂₇) ∷ ‵ (froom mref-g l₂₆ 0) ∷ ‵ (fdies mref-g l₂₆) ∷ ‵ (froom tyUnit l₂₅ 0) ∷ ‵ (fdies tyUnit l₂₅) ∷ ‵ (froom (sliceTy sref-w) l₂₄ 0) ∷ ‵ (fdies (sliceTy sref-w) l₂₄) ∷ ‵ (froom sref-w l₂₃ 0) ∷ ‵ (fdies sref-w l₂₃) ∷ ‵ (froom (sliceTy sref-w) l₂₂ 0) ∷ ‵ (fdies (sliceTy sref-w) l₂₂) ∷ ‵ (froom sref-w l₂₁ 0) ∷ ‵ (fdies sref-w l₂₁) ∷ ‵ (froom (sliceTy sref-g) l₂₀ 0) ∷ ‵ (fdies (sliceTy sref-g) l₂₀) ∷ ‵ (froom sref-g l₁₉ 0) ∷ ‵ (fdies sref-g l₁₉) ∷ ‵ (froom (sliceTy sref-g) l₁₈ 0) ∷ ‵ (fdies (sliceTy sref-g) l₁₈) ∷ ‵ (froom sref-g l₁₇ 0) ∷ ‵ (fdies sref-g l₁₇) ∷ ‵ (froom (sliceTy sref-w) l₁₆ 0) ∷ ‵ (fdies (sliceTy sref-w) l₁₆) ∷ ‵ (froom sref-w l₁₅ 0) ∷ ‵ (fdies sref-w l₁₅) ∷ ‵ (froom (sliceTy sref-g) l₁₄ 0) ∷ ‵ (fdies (sliceTy sref-g) l₁₄) ∷ ‵ (froom sref-g l₁₃ 0) ∷ ‵ (fdies sref-g l₁₃) ∷ ‵ (froom X′.mir l₁₂ 0) ∷ ‵ (fdies X′.mir l₁₂) ∷ ‵ (froom T′.mir l₁₁ 0) ∷ ‵ (fdies T′.mir l₁₁) ∷ ‵ (froom word l₁₀ 0) ∷ ‵ (fdies word l₁₀) ∷ ‵ (fat fullShare G′.mir l₉ 0 (LL.val G.the-type G′.the-laws g)) ∷ ‵ (fdies G′.mir l₉) ∷ ‵ (fat fullShare word l₈ 0 (vint w64 i)) ∷ ‵ (fdies word l₈) ∷ ‵ (fat fullShare N′.mir l₇ 0 (N′.lowered k)) ∷ ‵ (fdies N′.mir l₇) ∷ ‵ (fat fullShare tyBool l₆ 0 (vbool ok)) ∷ ‵ (fdies tyBool l₆) ∷ ‵ (fat fullShare slice-s l₅ 0 (val-s)) ∷ ‵ (fdies slice-s l₅) ∷ ‵ (fat fullShare word l₄ 0 (vint w64 n)) ∷ ‵ (fdies word l₄) ∷ ‵ (fat fullShare slice-w l₃ 0 (val-w)) ∷ ‵ (fdies slice-w l₃) ∷ ‵ (fat fullShare word l₂ 0 (vint w64 m)) ∷ ‵ (fdies word l₂) ∷ ‵ (fat fullShare slice-g l₁ 0 (val-g)) ∷ ‵ (fdies slice-g l₁) ∷ ‵ (froom A′.mir l₀ 0) ∷ ‵ (fdies A′.mir l₀) ∷ []) (runs C Λ En mirᶠ.t-13 (atRet En Post))
+      finds : (ok : Bool) → (e-ok : ok ≡ sound l) → (k : Named) → (e-k : k ≡ namedOf (requestOf s)) → (is-k : IsNamed k) → (i : ℕ) → (e-i : i ≡ findRegistry gs m (k .registry)) → (f-i : i < 2 ^ 64) → (g : RegistryState) → (e-g : (i < length gs → g ≡ getD gs i blank)) → (is-g : IsRegistry g) → Sq W (‵ (ObsG gs) ∷ ‵ (BorG gs) ∷ ‵ (flft κ q) ∷ ‵ (ObsW ws) ∷ ‵ (BorW ws) ∷ ‵ (flft κ′ q′) ∷ ‵ (flft κ″ q″) ∷ ‵ Own ∷ ‵ (froom (sliceTy mref-w) l₂₉ 0) ∷ ‵ (fdies (sliceTy mref-w) l₂₉) ∷ ‵ (froom mref-w l₂₈ 0) ∷ ‵ (fdies mref-w l₂₈) ∷ ‵ (froom (sliceTy mref-g) l₂₇ 0) ∷ ‵ (fdies (sliceTy mref-g) l₂₇) ∷ ‵ (froom mref-g l₂₆ 0) ∷ ‵ (fdies mref-g l₂₆) ∷ ‵ (froom tyUnit l₂₅ 0) ∷ ‵ (fdies tyUnit l₂₅) ∷ ‵ (froom (sliceTy sref-w) l₂₄ 0) ∷ ‵ (fdies (sliceTy sref-w) l₂₄) ∷ ‵ (froom sref-w l₂₃ 0) ∷ ‵ (fdies sref-w l₂₃) ∷ ‵ (froom (sliceTy sref-w) l₂₂ 0) ∷ ‵ (fdies (sliceTy sref-w) l₂₂) ∷ ‵ (froom sref-w l₂₁ 0) ∷ ‵ (fdies sref-w l₂₁) ∷ ‵ (froom (sliceTy sref-g) l₂₀ 0) ∷ ‵ (fdies (sliceTy sref-g) l₂₀) ∷ ‵ (froom sref-g l₁₉ 0) ∷ ‵ (fdies sref-g l₁₉) ∷ ‵ (froom (sliceTy sref-g) l₁₈ 0) ∷ ‵ (fdies (sliceTy sref-g) l₁₈) ∷ ‵ (froom sref-g l₁₇ 0) ∷ ‵ (fdies sref-g l₁₇) ∷ ‵ (froom (sliceTy sref-w) l₁₆ 0) ∷ ‵ (fdies (sliceTy sref-w) l₁₆) ∷ ‵ (froom sref-w l₁₅ 0) ∷ ‵ (fdies sref-w l₁₅) ∷ ‵ (froom (sliceTy sref-g) l₁₄ 0) ∷ ‵ (fdies (sliceTy sref-g) l₁₄) ∷ ‵ (froom sref-g l₁₃ 0) ∷ ‵ (fdies sref-g l₁₃) ∷ ‵ (froom X′.mir l₁₂ 0) ∷ ‵ (fdies X′.mir l₁₂) ∷ ‵ (froom T′.mir l₁₁ 0) ∷ ‵ (fdies T′.mir l₁₁) ∷ ‵ (froom word l₁₀ 0) ∷ ‵ (fdies word l₁₀) ∷ ‵ (fat fullShare G′.mir l₉ 0 (LL.val G.the-type G′.the-laws g)) ∷ ‵ (fdies G′.mir l₉) ∷ ‵ (fat fullShare word l₈ 0 (vint w64 i)) ∷ ‵ (fdies word l₈) ∷ ‵ (fat fullShare N′.mir l₇ 0 (N′.lowered k)) ∷ ‵ (fdies N′.mir l₇) ∷ ‵ (fat fullShare tyBool l₆ 0 (vbool ok)) ∷ ‵ (fdies tyBool l₆) ∷ ‵ (fat fullShare slice-s l₅ 0 (val-s)) ∷ ‵ (fdies slice-s l₅) ∷ ‵ (fat fullShare word l₄ 0 (vint w64 n)) ∷ ‵ (fdies word l₄) ∷ ‵ (fat fullShare slice-w l₃ 0 (val-w)) ∷ ‵ (fdies slice-w l₃) ∷ ‵ (fat fullShare word l₂ 0 (vint w64 m)) ∷ ‵ (fdies word l₂) ∷ ‵ (fat fullShare slice-g l₁ 0 (val-g)) ∷ ‵ (fdies slice-g l₁) ∷ ‵ (froom A′.mir l₀ 0) ∷ ‵ (fdies A′.mir l₀) ∷ []) (runs C Λ En mirᶠ.t-13 (atRet En Post))
       finds ok e-ok k e-k is-k i e-i f-i g e-g is-g =
           assigns ! (addr ! (from ! (fld ! refl (hop ! (look-in ! 60 (sub ! 0 refl (whole !))) (stop !))))) (from ! (stop !)) (init ! 24 refl (tt, tt)) $
           assigns ! (agg ! (and-then ! (load ! (from ! (stop !)) (look ! 24 refl)) (and-then ! (load ! (from ! (fld ! refl (stop !))) (look-in ! 60 (sub ! 1 refl (whole !)))) (no-more !)))) (from ! (stop !)) (init ! 22 refl (tt, (tt, (record { fits = room-w .0 }, tt)))) $
@@ -698,7 +696,7 @@ module _ {M : Type 1} (𝓤 : URA M) (H : Heap 𝓤) (A : Atoms 𝓤) (W : Given
           land ! (from ! (stop !)) (init ! 48 refl (LL.lawful G.the-type G′.the-laws 𝓤 H A W .typed r _ is .0)) $
           rewrite ! 48 (λ (z : Val). ‵ (fat fullShare G′.mir l₉ 0 (z))) (ap only (LL.tells G.the-type G′.the-laws r _ is)) refl $
           forget ! 26 refl $ forget ! 28 refl $
-          finds ok e-ok k e-k is-k i e-i f-i r (e, f) (subst (λ (vs : List Val). Is G.the-row r vs) (LL.tells G.the-type G′.the-laws r _ is) is))
+          finds ok e-ok k e-k is-k i e-i f-i r f (subst (λ (vs : List Val). Is G.the-row r vs) (LL.tells G.the-type G′.the-laws r _ is) is))
 
       -- from the call of `find_registry` on
       seeks : (ok : Bool) → (e-ok : ok ≡ sound l) → (k : Named) → (e-k : k ≡ namedOf (requestOf s)) → (is-k : IsNamed k) → Sq W (‵ (ObsG gs) ∷ ‵ (BorG gs) ∷ ‵ (flft κ q) ∷ ‵ (ObsW ws) ∷ ‵ (BorW ws) ∷ ‵ (flft κ′ q′) ∷ ‵ (flft κ″ q″) ∷ ‵ Own ∷ ‵ (froom (sliceTy mref-w) l₂₉ 0) ∷ ‵ (fdies (sliceTy mref-w) l₂₉) ∷ ‵ (froom mref-w l₂₈ 0) ∷ ‵ (fdies mref-w l₂₈) ∷ ‵ (froom (sliceTy mref-g) l₂₇ 0) ∷ ‵ (fdies (sliceTy mref-g) l₂₇) ∷ ‵ (froom mref-g l₂₆ 0) ∷ ‵ (fdies mref-g l₂₆) ∷ ‵ (froom tyUnit l₂₅ 0) ∷ ‵ (fdies tyUnit l₂₅) ∷ ‵ (froom (sliceTy sref-w) l₂₄ 0) ∷ ‵ (fdies (sliceTy sref-w) l₂₄) ∷ ‵ (froom sref-w l₂₃ 0) ∷ ‵ (fdies sref-w l₂₃) ∷ ‵ (froom (sliceTy sref-w) l₂₂ 0) ∷ ‵ (fdies (sliceTy sref-w) l₂₂) ∷ ‵ (froom sref-w l₂₁ 0) ∷ ‵ (fdies sref-w l₂₁) ∷ ‵ (froom (sliceTy sref-g) l₂₀ 0) ∷ ‵ (fdies (sliceTy sref-g) l₂₀) ∷ ‵ (froom sref-g l₁₉ 0) ∷ ‵ (fdies sref-g l₁₉) ∷ ‵ (froom (sliceTy sref-g) l₁₈ 0) ∷ ‵ (fdies (sliceTy sref-g) l₁₈) ∷ ‵ (froom sref-g l₁₇ 0) ∷ ‵ (fdies sref-g l₁₇) ∷ ‵ (froom (sliceTy sref-w) l₁₆ 0) ∷ ‵ (fdies (sliceTy sref-w) l₁₆) ∷ ‵ (froom sref-w l₁₅ 0) ∷ ‵ (fdies sref-w l₁₅) ∷ ‵ (froom (sliceTy sref-g) l₁₄ 0) ∷ ‵ (fdies (sliceTy sref-g) l₁₄) ∷ ‵ (froom sref-g l₁₃ 0) ∷ ‵ (fdies sref-g l₁₃) ∷ ‵ (froom X′.mir l₁₂ 0) ∷ ‵ (fdies X′.mir l₁₂) ∷ ‵ (froom T′.mir l₁₁ 0) ∷ ‵ (fdies T′.mir l₁₁) ∷ ‵ (froom word l₁₀ 0) ∷ ‵ (fdies word l₁₀) ∷ ‵ (froom G′.mir l₉ 0) ∷ ‵ (fdies G′.mir l₉) ∷ ‵ (froom word l₈ 0) ∷ ‵ (fdies word l₈) ∷ ‵ (fat fullShare N′.mir l₇ 0 (N′.lowered k)) ∷ ‵ (fdies N′.mir l₇) ∷ ‵ (fat fullShare tyBool l₆ 0 (vbool ok)) ∷ ‵ (fdies tyBool l₆) ∷ ‵ (fat fullShare slice-s l₅ 0 (val-s)) ∷ ‵ (fdies slice-s l₅) ∷ ‵ (fat fullShare word l₄ 0 (vint w64 n)) ∷ ‵ (fdies word l₄) ∷ ‵ (fat fullShare slice-w l₃ 0 (val-w)) ∷ ‵ (fdies slice-w l₃) ∷ ‵ (fat fullShare word l₂ 0 (vint w64 m)) ∷ ‵ (fdies word l₂) ∷ ‵ (fat fullShare slice-g l₁ 0 (val-g)) ∷ ‵ (fdies slice-g l₁) ∷ ‵ (froom A′.mir l₀ 0) ∷ ‵ (fdies A′.mir l₀) ∷ []) (runs C Λ En mirᶠ.t-7 (atRet En Post))
@@ -722,8 +720,8 @@ module _ {M : Type 1} (𝓤 : URA M) (H : Heap 𝓤) (A : Atoms 𝓤) (W : Given
           seeks ok e-ok r e (subst (λ (vs : List Val). Is N.the-row r vs) (LL.tells N.the-type N′.the-laws r _ is) is))
 
       -- from the call of `sound` on
-      begins′ : Sq W (‵ (ObsG gs) ∷ ‵ (BorG gs) ∷ ‵ (flft κ q) ∷ ‵ (ObsW ws) ∷ ‵ (BorW ws) ∷ ‵ (flft κ′ q′) ∷ ‵ (flft κ″ q″) ∷ ‵ Own ∷ ‵ (froom (sliceTy mref-w) l₂₉ 0) ∷ ‵ (fdies (sliceTy mref-w) l₂₉) ∷ ‵ (froom mref-w l₂₈ 0) ∷ ‵ (fdies mref-w l₂₈) ∷ ‵ (froom (sliceTy mref-g) l₂₇ 0) ∷ ‵ (fdies (sliceTy mref-g) l₂₇) ∷ ‵ (froom mref-g l₂₆ 0) ∷ ‵ (fdies mref-g l₂₆) ∷ ‵ (froom tyUnit l₂₅ 0) ∷ ‵ (fdies tyUnit l₂₅) ∷ ‵ (froom (sliceTy sref-w) l₂₄ 0) ∷ ‵ (fdies (sliceTy sref-w) l₂₄) ∷ ‵ (froom sref-w l₂₃ 0) ∷ ‵ (fdies sref-w l₂₃) ∷ ‵ (froom (sliceTy sref-w) l₂₂ 0) ∷ ‵ (fdies (sliceTy sref-w) l₂₂) ∷ ‵ (froom sref-w l₂₁ 0) ∷ ‵ (fdies sref-w l₂₁) ∷ ‵ (froom (sliceTy sref-g) l₂₀ 0) ∷ ‵ (fdies (sliceTy sref-g) l₂₀) ∷ ‵ (froom sref-g l₁₉ 0) ∷ ‵ (fdies sref-g l₁₉) ∷ ‵ (froom (sliceTy sref-g) l₁₈ 0) ∷ ‵ (fdies (sliceTy sref-g) l₁₈) ∷ ‵ (froom sref-g l₁₇ 0) ∷ ‵ (fdies sref-g l₁₇) ∷ ‵ (froom (sliceTy sref-w) l₁₆ 0) ∷ ‵ (fdies (sliceTy sref-w) l₁₆) ∷ ‵ (froom sref-w l₁₅ 0) ∷ ‵ (fdies sref-w l₁₅) ∷ ‵ (froom (sliceTy sref-g) l₁₄ 0) ∷ ‵ (fdies (sliceTy sref-g) l₁₄) ∷ ‵ (froom sref-g l₁₃ 0) ∷ ‵ (fdies sref-g l₁₃) ∷ ‵ (froom X′.mir l₁₂ 0) ∷ ‵ (fdies X′.mir l₁₂) ∷ ‵ (froom T′.mir l₁₁ 0) ∷ ‵ (fdies T′.mir l₁₁) ∷ ‵ (froom word l₁₀ 0) ∷ ‵ (fdies word l₁₀) ∷ ‵ (froom G′.mir l₉ 0) ∷ ‵ (fdies G′.mir l₉) ∷ ‵ (froom word l₈ 0) ∷ ‵ (fdies word l₈) ∷ ‵ (froom N′.mir l₇ 0) ∷ ‵ (fdies N′.mir l₇) ∷ ‵ (froom tyBool l₆ 0) ∷ ‵ (fdies tyBool l₆) ∷ ‵ (fat fullShare slice-s l₅ 0 (val-s)) ∷ ‵ (fdies slice-s l₅) ∷ ‵ (fat fullShare word l₄ 0 (vint w64 n)) ∷ ‵ (fdies word l₄) ∷ ‵ (fat fullShare slice-w l₃ 0 (val-w)) ∷ ‵ (fdies slice-w l₃) ∷ ‵ (fat fullShare word l₂ 0 (vint w64 m)) ∷ ‵ (fdies word l₂) ∷ ‵ (fat fullShare slice-g l₁ 0 (val-g)) ∷ ‵ (fdies slice-g l₁) ∷ ‵ (froom A′.mir l₀ 0) ∷ ‵ (fdies A′.mir l₀) ∷ []) (runs C Λ En mirᶠ.t-1 (atRet En Post))
-      begins′ =
+      checks : Sq W (‵ (ObsG gs) ∷ ‵ (BorG gs) ∷ ‵ (flft κ q) ∷ ‵ (ObsW ws) ∷ ‵ (BorW ws) ∷ ‵ (flft κ′ q′) ∷ ‵ (flft κ″ q″) ∷ ‵ Own ∷ ‵ (froom (sliceTy mref-w) l₂₉ 0) ∷ ‵ (fdies (sliceTy mref-w) l₂₉) ∷ ‵ (froom mref-w l₂₈ 0) ∷ ‵ (fdies mref-w l₂₈) ∷ ‵ (froom (sliceTy mref-g) l₂₇ 0) ∷ ‵ (fdies (sliceTy mref-g) l₂₇) ∷ ‵ (froom mref-g l₂₆ 0) ∷ ‵ (fdies mref-g l₂₆) ∷ ‵ (froom tyUnit l₂₅ 0) ∷ ‵ (fdies tyUnit l₂₅) ∷ ‵ (froom (sliceTy sref-w) l₂₄ 0) ∷ ‵ (fdies (sliceTy sref-w) l₂₄) ∷ ‵ (froom sref-w l₂₃ 0) ∷ ‵ (fdies sref-w l₂₃) ∷ ‵ (froom (sliceTy sref-w) l₂₂ 0) ∷ ‵ (fdies (sliceTy sref-w) l₂₂) ∷ ‵ (froom sref-w l₂₁ 0) ∷ ‵ (fdies sref-w l₂₁) ∷ ‵ (froom (sliceTy sref-g) l₂₀ 0) ∷ ‵ (fdies (sliceTy sref-g) l₂₀) ∷ ‵ (froom sref-g l₁₉ 0) ∷ ‵ (fdies sref-g l₁₉) ∷ ‵ (froom (sliceTy sref-g) l₁₈ 0) ∷ ‵ (fdies (sliceTy sref-g) l₁₈) ∷ ‵ (froom sref-g l₁₇ 0) ∷ ‵ (fdies sref-g l₁₇) ∷ ‵ (froom (sliceTy sref-w) l₁₆ 0) ∷ ‵ (fdies (sliceTy sref-w) l₁₆) ∷ ‵ (froom sref-w l₁₅ 0) ∷ ‵ (fdies sref-w l₁₅) ∷ ‵ (froom (sliceTy sref-g) l₁₄ 0) ∷ ‵ (fdies (sliceTy sref-g) l₁₄) ∷ ‵ (froom sref-g l₁₃ 0) ∷ ‵ (fdies sref-g l₁₃) ∷ ‵ (froom X′.mir l₁₂ 0) ∷ ‵ (fdies X′.mir l₁₂) ∷ ‵ (froom T′.mir l₁₁ 0) ∷ ‵ (fdies T′.mir l₁₁) ∷ ‵ (froom word l₁₀ 0) ∷ ‵ (fdies word l₁₀) ∷ ‵ (froom G′.mir l₉ 0) ∷ ‵ (fdies G′.mir l₉) ∷ ‵ (froom word l₈ 0) ∷ ‵ (fdies word l₈) ∷ ‵ (froom N′.mir l₇ 0) ∷ ‵ (fdies N′.mir l₇) ∷ ‵ (froom tyBool l₆ 0) ∷ ‵ (fdies tyBool l₆) ∷ ‵ (fat fullShare slice-s l₅ 0 (val-s)) ∷ ‵ (fdies slice-s l₅) ∷ ‵ (fat fullShare word l₄ 0 (vint w64 n)) ∷ ‵ (fdies word l₄) ∷ ‵ (fat fullShare slice-w l₃ 0 (val-w)) ∷ ‵ (fdies slice-w l₃) ∷ ‵ (fat fullShare word l₂ 0 (vint w64 m)) ∷ ‵ (fdies word l₂) ∷ ‵ (fat fullShare slice-g l₁ 0 (val-g)) ∷ ‵ (fdies slice-g l₁) ∷ ‵ (froom A′.mir l₀ 0) ∷ ‵ (fdies A′.mir l₀) ∷ []) (runs C Λ En mirᶠ.t-1 (atRet En Post))
+      checks =
           assigns ! (addr ! (from ! (fld ! refl (hop ! (look-in ! 64 (sub ! 0 refl (whole !))) (stop !))))) (from ! (stop !)) (init ! 40 refl (tt, tt)) $
           assigns ! (agg ! (and-then ! (load ! (from ! (stop !)) (look ! 40 refl)) (and-then ! (load ! (from ! (fld ! refl (stop !))) (look-in ! 64 (sub ! 1 refl (whole !)))) (no-more !)))) (from ! (stop !)) (init ! 38 refl (tt, (tt, (record { fits = room-g .0 }, tt)))) $
           assigns ! (addr ! (from ! (fld ! refl (hop ! (look-in ! 60 (sub ! 0 refl (whole !))) (stop !))))) (from ! (stop !)) (init ! 36 refl (tt, tt)) $
@@ -738,7 +736,7 @@ module _ {M : Type 1} (𝓤 : URA M) (H : Heap 𝓤) (A : Atoms 𝓤) (W : Given
       begins =
           move ! (61 ∷ []) $ fsplit ! $ fsplit ! $ drop ! $ fsplit ! $ move ! (2 ∷ []) $ fsplit ! $ drop ! $ fsplit ! $ fsplit ! $ drop ! $ fsplit ! $ move ! (2 ∷ []) $ fsplit ! $ drop ! $ fsplit ! $ move ! (1 ∷ []) $ drop ! $
           -- [what the attempt owns; obs and the borrow of the rows; those of the registries; the locals; the tokens]
-          move ! (65 ∷ []) $ split ! $ move ! (1 ∷ []) $ split ! $ move ! (1 ∷ []) $ split ! $ move ! (1 ∷ []) $ drop ! $ move ! (6 ∷ 7 ∷ 2 ∷ 4 ∷ 5 ∷ 1 ∷ 0 ∷ 3 ∷ []) $ begins′
+          move ! (65 ∷ []) $ split ! $ move ! (1 ∷ []) $ split ! $ move ! (1 ∷ []) $ split ! $ move ! (1 ∷ []) $ drop ! $ move ! (6 ∷ 7 ∷ 2 ∷ 4 ∷ 5 ∷ 1 ∷ 0 ∷ 3 ∷ []) $ checks
 
     walk : ent 𝓤 (onEntry 𝓤 H A me.signature (κ, (κ′, (κ″, tt))) (q, (q′, (q″, tt))) x at) (WpFn 𝓤 H C Λ code.function (val-g ∷ vint w64 m ∷ val-w ∷ vint w64 n ∷ val-s ∷ []) Post)
     walk =
