@@ -1,9 +1,11 @@
 -- What storing the two states that are handed back makes of a lent ledger.
---     Call                what was read at the places of what the attempt names, and what is handed back
---     answered, stepped   the answer and the ledger are those of the ledger's step
---     refused-keeps       after a refusal both slices and both counts are as before
---     one-changes         an accepted attempt leaves one of the slices as before
---     Steps, call-steps   all of this, from what the parts of a call ensure
+--     Call                         one call: the ledger's slices and counts, the attempt, what was read at the places found, and what is handed back
+--     registry-as, count-as, row-as, rows-as   the parts of what is handed back
+--     same-registries, same-rows   a state that is stored where it was read changes nothing
+--     leaves                       what is handed back is what the effect in the ledger leaves
+--     answered, stepped            the answer and the ledger are those of the ledger's step
+--     refused-keeps                after a refusal both slices and both counts are as before
+--     one-changes                  an accepted attempt leaves one of the slices as before
 use Prim.Native.Nat.{ℕ, _+_, _<_, _≤_, min}
 use mathlib.Core.Path.{_≡_, refl, sym, ap, subst, _∙_}
 use mathlib.Core.Bool.{Bool, true, false, cond, true≢false, false≢true}
@@ -49,16 +51,16 @@ module _ {x y : Next} (p : x ≡ y) where
   answer-as : x .answer ≡ y .answer
   answer-as = ap (λ (z : Next). z .answer) p
 
-  registry-as : x .registry ≡ y .registry
+  pub registry-as : x .registry ≡ y .registry
   registry-as = ap (λ (z : Next). z .registry) p
 
-  count-as : x .«registry_count» ≡ y .«registry_count»
+  pub count-as : x .«registry_count» ≡ y .«registry_count»
   count-as = ap (λ (z : Next). z .«registry_count») p
 
-  row-as : x .row ≡ y .row
+  pub row-as : x .row ≡ y .row
   row-as = ap (λ (z : Next). z .row) p
 
-  rows-as : x .«row_count» ≡ y .«row_count»
+  pub rows-as : x .«row_count» ≡ y .«row_count»
   rows-as = ap (λ (z : Next). z .«row_count») p
 
 module _ (gs : List RegistryState) (m : ℕ) (ws : List CredentialState) (n : ℕ) (s : List ℕ) where
@@ -69,16 +71,16 @@ module _ (gs : List RegistryState) (m : ℕ) (ws : List CredentialState) (n : �
   abbrev q : Named
   q = namedOf (requestOf s)
 
-  abbrev registryPlace : ℕ
+  abbrev pub registryPlace : ℕ
   registryPlace = findRegistry gs m (q .registry)
 
-  abbrev rowPlace : ℕ
+  abbrev pub rowPlace : ℕ
   rowPlace = place keyOf eqPair noCredential (pairNamed q) (take n ws)
 
-  record Call (g : RegistryState) (w : CredentialState) (x : Next) : Type 0 where
-    registry : registryPlace < length gs → g ≡ getD gs registryPlace blank
-    row : w ≡ getD ws rowPlace noCredential
-    left : Leaves (effectNamed (sound l) s q registryPlace m g rowPlace n w) g m w n x
+  pub record Call (g : RegistryState) (w : CredentialState) (x : Next) : Type 0 where
+    pub registry : registryPlace < length gs → g ≡ getD gs registryPlace blank
+    pub row : w ≡ getD ws rowPlace noCredential
+    pub left : Leaves (effectNamed (sound l) s q registryPlace m g rowPlace n w) g m w n x
 
   module _ (g : RegistryState) (w : CredentialState) (x : Next) (c : Call g w x) where
     -- the slices afterwards
@@ -88,14 +90,14 @@ module _ (gs : List RegistryState) (m : ℕ) (ws : List CredentialState) (n : �
     abbrev ws′ : List CredentialState
     ws′ = set ws rowPlace (x .row)
 
-    same-registries : x .registry ≡ g → gs′ ≡ gs
+    pub same-registries : x .registry ≡ g → gs′ ≡ gs
     same-registries e =
         ap (set gs registryPlace) e ∙ elim (decLt registryPlace (length gs)) [
           | yes b ↦ ap (set gs registryPlace) (c .registry b) ∙ set-getD gs registryPlace blank
           | no b ↦ set-out gs registryPlace g (omega arith)
         ]
 
-    same-rows : x .row ≡ w → ws′ ≡ ws
+    pub same-rows : x .row ≡ w → ws′ ≡ ws
     same-rows e = ap (set ws rowPlace) (e ∙ c .row) ∙ set-getD ws rowPlace noCredential
 
     found : sound l ≡ true → Found l q registryPlace g rowPlace w
@@ -119,7 +121,7 @@ module _ (gs : List RegistryState) (m : ℕ) (ws : List CredentialState) (n : �
     abbrev e : Effect
     e = effect l (requestOf s)
 
-    leaves : Leaves e g m w n x
+    pub leaves : Leaves e g m w n x
     unfolding lentLedger
     leaves = subst (λ (z : Effect). Leaves z g m w n x) (named-effect l s registryPlace rowPlace g w found) (c .left)
 
@@ -175,16 +177,16 @@ module _ (gs : List RegistryState) (m : ℕ) (ws : List CredentialState) (n : �
         ∙ ap (λ (z : Pair). put keyOf eqPair z v (take n ws)) f)
 
     -- The answer, and the ledger with both states stored, are those of the ledger's step.
-    answered : x .answer ≡ stepOf l s .answer
+    pub answered : x .answer ≡ stepOf l s .answer
     unfolding stepOf
     answered = answer-of e leaves
 
-    stepped : lentLedger gs′ (x .«registry_count») ws′ (x .«row_count») ≡ stepOf l s .ledger
+    pub stepped : lentLedger gs′ (x .«registry_count») ws′ (x .«row_count») ≡ stepOf l s .ledger
     unfolding stepOf
     stepped = change e leaves (effect-fits l (requestOf s))
 
     -- A refusal leaves both slices and both counts as they were.
-    refused-keeps : accepts (x .answer) ≡ false → (gs′ ≡ gs) × (x .«registry_count» ≡ m) × (ws′ ≡ ws) × (x .«row_count» ≡ n)
+    pub refused-keeps : accepts (x .answer) ≡ false → (gs′ ≡ gs) × (x .«registry_count» ≡ m) × (ws′ ≡ ws) × (x .«row_count» ≡ n)
     refused-keeps h = go e leaves (sym (ap accepts (answer-of e leaves)) ∙ h)
       where
         go : (z : Effect) → Leaves z g m w n x → accepts (answerOf z) ≡ false → (gs′ ≡ gs) × (x .«registry_count» ≡ m) × (ws′ ≡ ws) × (x .«row_count» ≡ n)
@@ -195,7 +197,7 @@ module _ (gs : List RegistryState) (m : ℕ) (ws : List CredentialState) (n : �
         go (setRow k v) p h = absurd (true≢false h)
 
     -- An accepted attempt changes one of the slices, and leaves the other as it was.
-    one-changes : accepts (x .answer) ≡ true → (gs′ ≡ gs) ⊎ (ws′ ≡ ws)
+    pub one-changes : accepts (x .answer) ≡ true → (gs′ ≡ gs) ⊎ (ws′ ≡ ws)
     one-changes h = go e leaves (sym (ap accepts (answer-of e leaves)) ∙ h)
       where
         go : (z : Effect) → Leaves z g m w n x → accepts (answerOf z) ≡ true → (gs′ ≡ gs) ⊎ (ws′ ≡ ws)
@@ -204,35 +206,3 @@ module _ (gs : List RegistryState) (m : ℕ) (ws : List CredentialState) (n : �
         go (setRegistry id g′) p h = inr (same-rows (row-as (p .1)))
         go (newRow v) p h = inl (same-registries (registry-as p))
         go (setRow k v) p h = inl (same-registries (registry-as p))
-
--- What a call leaves where the registry and the row that are handed back are stored at i and j.
-pub record Steps (gs : List RegistryState) (m : ℕ) (ws : List CredentialState) (n : ℕ) (s : List ℕ) (i j : ℕ) (x : Next) : Type 0 where
-  pub answer : x .answer ≡ stepOf (lentLedger gs m ws n) s .answer
-  pub ledger : lentLedger (set gs i (x .registry)) (x .«registry_count») (set ws j (x .row)) (x .«row_count») ≡ stepOf (lentLedger gs m ws n) s .ledger
-  pub refused : accepts (x .answer) ≡ false → (set gs i (x .registry) ≡ gs) × (x .«registry_count» ≡ m) × (set ws j (x .row) ≡ ws) × (x .«row_count» ≡ n)
-  pub accepted : accepts (x .answer) ≡ true → (set gs i (x .registry) ≡ gs) ⊎ (set ws j (x .row) ≡ ws)
-
--- The parts of a call, one after the other, come to the ledger's step.
-pub call-steps : (gs : List RegistryState) (m : ℕ) (ws : List CredentialState) (n : ℕ) (s : List ℕ) (ok : Bool) (q : Named) (i : ℕ) (g : RegistryState) (j : ℕ) (w : CredentialState) (x : Next)
-    → ok ≡ sound (lentLedger gs m ws n)
-    → q ≡ namedOf (requestOf s)
-    → i ≡ findRegistry gs m (q .registry)
-    → (i < length gs → g ≡ getD gs i blank)
-    → j ≡ place keyOf eqPair noCredential (pairNamed q) (take n ws)
-    → w ≡ getD ws j noCredential
-    → Leaves (effectNamed ok s q i m g j n w) g m w n x
-    → Steps gs m ws n s i j x
-call-steps gs m ws n s ok q i g j w x eo eq ei rg ej rr left =
-    let q0 = namedOf (requestOf s) in
-    let fi : i ≡ registryPlace gs m ws n s = ei ∙ ap (λ (z : Named). findRegistry gs m (z .registry)) eq in
-    let fj : j ≡ rowPlace gs m ws n s = ej ∙ ap (λ (z : Named). place keyOf eqPair noCredential (pairNamed z) (take n ws)) eq in
-    subst (λ (b : Bool). P b q i j) (sym eo) (subst (λ (z : Named). P (sound (lentLedger gs m ws n)) z i j) (sym eq) (subst (λ (z : ℕ). P (sound (lentLedger gs m ws n)) q0 z j) (sym fi) (subst (λ (z : ℕ). P (sound (lentLedger gs m ws n)) q0 (registryPlace gs m ws n s) z) (sym fj) here))) rg rr left
-  where
-    P : Bool → Named → ℕ → ℕ → Type 0
-    P b z i j = (i < length gs → g ≡ getD gs i blank) → w ≡ getD ws j noCredential → Leaves (effectNamed b s z i m g j n w) g m w n x → Steps gs m ws n s i j x
-
-    here : P (sound (lentLedger gs m ws n)) (namedOf (requestOf s)) (registryPlace gs m ws n s) (rowPlace gs m ws n s)
-    here a b d =
-        let c : Call gs m ws n s g w x = record { registry = a; row = b; left = d } in
-        record
-        { answer = answered gs m ws n s g w x c; ledger = stepped gs m ws n s g w x c; refused = refused-keeps gs m ws n s g w x c; accepted = one-changes gs m ws n s g w x c }

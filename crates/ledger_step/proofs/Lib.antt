@@ -11,6 +11,7 @@ pub mod ReadsFixed
 pub mod Relend
 pub mod Rules
 pub mod Runs
+pub mod Share
 pub mod SoundParts
 pub mod StepSound
 pub mod TableChecks
