@@ -3,6 +3,7 @@
 --     written-within   an image that was written is within its buffer
 --     stored, short    what is found of the image, and of a buffer that is too short for it
 --     registries-counted, rows-counted   the counts are the ledger's
+--     key-read         the key that a record asks for
 --     facts-found      what is found of the whole
 use Prim.Native.Nat.{ℕ, suc, _+_, _*_, _%_, _≤_}
 use mathlib.Core.Path.{_≡_, refl, ap}
@@ -13,18 +14,20 @@ use lib.Dec.{eqb, leb}
 use lib.ListN.{length, take, getD}
 use lib.Seq.{sets, length-sets}
 use borrow.Author.Tests.{leb-true}
+use Rattle.cesr.specs.declared.primitive.Matter.{Matter}
+use Rattle.cesr.specs.Primitives.{readMatter}
 use Rattle.registry_laws.specs.Pairs.{Pair}
 use Rattle.ledger_step.specs.Ledgers.{Ledger, lentLedger, sound, lookUp}
 use Rattle.ledger_image.specs.Images.{ImageAnswer, Written, imageNumber, ledgerBytes, writtenOf}
 use Rattle.ledger_lookup.specs.declared.lookup.LookedUp.{LookedUp}
-use Rattle.ledger_lookup.specs.Lookups.{viewLookedUp}
+use Rattle.ledger_lookup.specs.Lookups.{keyPair, viewLookedUp}
 use Rattle.ledger_write.specs.declared.write.Written as Code
 use Rattle.ledger_write.specs.Writes.{viewWritten}
 use Rattle.ledger.specs.declared.ledger.Ledger as Value
 use Rattle.ledger.specs.LedgerValues.{viewLedger, ledgerAfter}
 use Rattle.images.specs.declared.answer.Facts.{Facts}
 use Rattle.images.specs.declared.answer.Image.{Image}
-use Rattle.images.specs.Judgement.{digestUpTo, digestOf, storedOf, refusedShort, shortOf, factsOf}
+use Rattle.images.specs.Judgement.{digestUpTo, digestOf, storedOf, refusedShort, shortOf, keyIn, factsOf}
 
 pub digest-more : (s : List ℕ) (i c b : ℕ) → c ≡ digestUpTo s i → b ≡ getD s i 0 → (c * 31 + b + 1) % 4294967291 ≡ digestUpTo s (i + 1)
 unfolding digestUpTo
@@ -64,6 +67,10 @@ module _ (t : Value.Ledger) where
   pub rows-counted : t .«row_count» ≡ viewLedger t .rowCount
   unfolding viewLedger lentLedger
   rows-counted = refl
+
+pub key-read : (e : List ℕ) (a b : Matter) → a ≡ readMatter e 12 → b ≡ readMatter e 45 → keyPair (record { 0 = a }) (record { 0 = b }) ≡ keyIn e
+unfolding keyIn
+key-read e a b p q = rw (p, q)
 
 pub facts-found : (a : ImageAnswer) (before l : Ledger) (k : Pair) (out other : List ℕ) (n gs ws : ℕ) (i : Image) (s : Bool) (f : LookedUp) → n ≡ imageNumber a → l ≡ ledgerAfter a before → gs ≡ l .registryCount → ws ≡ l .rowCount → i ≡ storedOf (writtenOf l out) → s ≡ shortOf l (i .size) other → viewLookedUp f ≡ lookUp l k → _≡_ {A = Facts} (record { number = n; registries = gs; rows = ws; size = i .size; digest = i .digest; short = s; refusal = f .refusal; standing = f .standing }) (factsOf a before k out other)
 unfolding factsOf

@@ -15,6 +15,7 @@ use ledger::ledger::Ledger;
 use libc::STDIN_FILENO;
 use libc::STDOUT_FILENO;
 use tally::Tally;
+ghost use mathlib.Core.Path.{_≡_};
 ghost use Prim.Native.Nat.{_≤_};
 ghost use lib.ListN.{length};
 
@@ -61,6 +62,13 @@ fn next_record(first: &mut [u8], buffer: &mut [u8]) -> Next
     Next::Image
 }
 
+// A buffer for images that must not be written. None starts with this byte, so that one that is written shows.
+fn other_buffer() -> [u8; 65536]
+    ensures { λ r. ⌜ 65536 ≡ length r ⌝ }
+{
+    [255; 65536]
+}
+
 fn print_spaced(n: u64) {
     io::write_all(STDOUT_FILENO, b" ");
     io::print_decimal(STDOUT_FILENO, n);
@@ -86,8 +94,7 @@ fn run() -> Outcome {
     let mut first = [0u8; 80];
     let mut buffer = io::large_buffer();
     let mut out = io::large_buffer();
-    // No image starts with this byte, so one that is written here shows.
-    let mut other = [255u8; 65536];
+    let mut other = other_buffer();
     let mut ledger = Ledger::empty();
     let mut tally = Tally::empty();
     let mut turns = u64::MAX;

@@ -2,57 +2,40 @@ use borrow.Author.Needs.{needs}
 use Rattle.images.specs.Judgement.{agreesOf}
 use Rattle.images.proofs.answer.agrees.Statement.{statement}
 use Rattle.images.proofs.answer.agrees.Tie as tie
-use Rattle.images.proofs.answer.agrees.Reads as reads
-use Rattle.images.proofs.answer.agrees.Lts as lts
-use Rattle.cesr.proofs.number.read_u16.Reads as read-u16-reads
-use Rattle.cesr.proofs.number.read_u32.Reads as read-u32-reads
-use Rattle.cesr.proofs.number.read_u8.Reads as read-u8-reads
 
--- src/answer.rt:126:30
 read-u8-requires : tie.Need-read-u8-requires
 read-u8-requires c κs = search needs
 
--- src/answer.rt:127:38
 read-u8-requires-2 : tie.Need-read-u8-requires-2
 read-u8-requires-2 c κs = search needs
 
--- src/answer.rt:127:38
 cast-registries : tie.Need-cast-registries
 cast-registries c = search needs
 
--- src/answer.rt:128:26
 read-u16-requires : tie.Need-read-u16-requires
 read-u16-requires c κs = search needs
 
--- src/answer.rt:128:26
 cast-rows : tie.Need-cast-rows
 cast-rows c = search needs
 
--- src/answer.rt:129:26
 read-u16-requires-2 : tie.Need-read-u16-requires-2
 read-u16-requires-2 c κs = search needs
 
--- src/answer.rt:129:26
 cast-size : tie.Need-cast-size
 cast-size c = search needs
 
--- src/answer.rt:130:30
 read-u32-requires : tie.Need-read-u32-requires
 read-u32-requires c κs = search needs
 
--- src/answer.rt:130:30
 cast-digest : tie.Need-cast-digest
 cast-digest c = search needs
 
--- src/answer.rt:131:32
 read-u8-requires-3 : tie.Need-read-u8-requires-3
 read-u8-requires-3 c κs = search needs
 
--- src/answer.rt:132:34
 read-u8-requires-4 : tie.Need-read-u8-requires-4
 read-u8-requires-4 c κs = search needs
 
--- src/answer.rt:123:1
 returns : tie.Need-returns
 unfolding agreesOf
 returns c =

@@ -7,9 +7,6 @@ use Rattle.images.specs.Judgement.{digestUpTo, digestOf}
 use Rattle.images.proofs.Laws.{digest-more}
 use Rattle.images.proofs.answer.digest.Statement.{statement}
 use Rattle.images.proofs.answer.digest.Tie as tie
-use Rattle.images.proofs.answer.digest.Reads as reads
-use Rattle.images.proofs.answer.digest.Lts as lts
-use Rattle.images.proofs.answer.wide.Reads as wide-reads
 
 abbrev Inv-loop : tie.InvT-loop
 Inv-loop s c₀ i₀ c i = (i ≤ length s) × (c < 4294967291) × (c ≡ digestUpTo s i)
@@ -17,46 +14,36 @@ Inv-loop s c₀ i₀ c i = (i ≤ length s) × (c < 4294967291) × (c ≡ digest
 abbrev μ-loop : tie.MeasureT-loop
 μ-loop s c₀ i₀ c i = length s - i
 
--- src/answer.rt:51:5
 loop-holds : tie.Need-loop-holds Inv-loop μ-loop
 unfolding digestUpTo
 loop-holds c = search needs
 
--- src/answer.rt:52:14
 mul-c : tie.Need-mul-c Inv-loop μ-loop
 mul-c c = search needs
 
--- src/answer.rt:52:28
 shared-slice-read-wide : tie.Need-shared-slice-read-wide Inv-loop μ-loop
 shared-slice-read-wide c = search needs
 
--- src/answer.rt:52:23
 wide-requires : tie.Need-wide-requires Inv-loop μ-loop
 wide-requires c κs = search needs
 
--- src/answer.rt:52:14
 add-c : tie.Need-add-c Inv-loop μ-loop
 add-c c = search needs
 
--- src/answer.rt:52:14
 add-c-2 : tie.Need-add-c-2 Inv-loop μ-loop
 add-c-2 c = search needs
 
--- src/answer.rt:53:9
 add-i : tie.Need-add-i Inv-loop μ-loop
 add-i c = search needs
 
--- src/answer.rt:51:5
 loop-less : tie.Need-loop-less Inv-loop μ-loop
 loop-less c = search needs
 
--- src/answer.rt:51:5
 loop-again : tie.Need-loop-again Inv-loop μ-loop
 loop-again c =
     let b3 = c .before .before .before in
     (search needs, search needs, digest-more (b3 .before .before .args .s .now) (b3 .loop .i) (b3 .loop .c) (c .wide .result) (b3 .loop .inv .2) (c .wide .ensures .0))
 
--- src/answer.rt:46:1
 returns : tie.Need-returns Inv-loop μ-loop
 unfolding digestOf
 returns c =
