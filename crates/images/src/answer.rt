@@ -44,7 +44,7 @@ fn wide(b: u8) -> u64
     b as u64
 }
 
-// Any changed, missing or added byte changes it, but for a few chances in 2^32.
+// What tells images apart. The modulus is a prime, so that a single changed byte always shows.
 fn digest(s: &[u8]) -> u64
     ensures { λ r. ⌜ r ≡ digestOf (now (s .entry)) ⌝ }
 {
