@@ -6,15 +6,12 @@ use Rattle.ledger.specs.LedgerValues.{viewLedger}
 use Rattle.ledger.proofs.ledger.Ledger.empty.Statement.{statement}
 use Rattle.ledger.proofs.ledger.Ledger.empty.Tie as tie
 
--- src/ledger.rt:39:26
 none-requires : tie.Need-none-requires
 none-requires c κs = search needs
 
--- src/ledger.rt:41:20
 none-requires-2 : tie.Need-none-requires-2
 none-requires-2 c κs = search needs
 
--- src/ledger.rt:35:5
 returns : tie.Need-returns
 unfolding viewLedger lentLedger ledgerOf
 returns c = refl

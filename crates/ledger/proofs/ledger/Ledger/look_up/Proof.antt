@@ -192,16 +192,31 @@ module _ {M : Type 1} (𝓤 : URA M) (H : Heap 𝓤) (A : Atoms 𝓤) (W : Given
           free0 ! $
           by ! (exits r is-r e)
 
-      begins : Sq W (‵ (froom slice-w l₉ 0) ∷ ‵ (fdies slice-w l₉) ∷ ‵ (froom aref-w l₈ 0) ∷ ‵ (fdies aref-w l₈) ∷ ‵ (froom slice-g l₇ 0) ∷ ‵ (fdies slice-g l₇) ∷ ‵ (froom aref-g l₆ 0) ∷ ‵ (fdies aref-g l₆) ∷ ‵ (froom arr-w l₅ 0) ∷ ‵ (fdies arr-w l₅) ∷ ‵ (froom arr-g l₄ 0) ∷ ‵ (fdies arr-g l₄) ∷ ‵ (fat fullShare S′.mir l₃ 0 (S′.lowered credential)) ∷ ‵ (fdies S′.mir l₃) ∷ ‵ (fat fullShare S′.mir l₂ 0 (S′.lowered registry)) ∷ ‵ (fdies S′.mir l₂) ∷ ‵ (fat fullShare K′.mir l₁ 0 (spelled ledger)) ∷ ‵ (fdies K′.mir l₁) ∷ ‵ (froom P′.mir l₀ 0) ∷ ‵ (fdies P′.mir l₀) ∷ []) (runs C Λ En mirᶠ.t-1 (atRet En Post))
-      begins =
-          assigns ! (of-opd ! (load ! (from ! (fld ! refl (stop !))) (look-in ! 16 (sub ! 0 refl (whole !))))) (from ! (stop !)) (init ! 10 refl (array-lawful 𝓤 H A W G.the-row (LL.lawful G.the-type G′.the-laws 𝓤 H A W) 16 .typed gs _ (has .registries) .0)) $
-          assigns ! (of-opd ! (load ! (from ! (fld ! refl (stop !))) (look-in ! 16 (sub ! 2 refl (whole !))))) (from ! (stop !)) (init ! 8 refl (array-lawful 𝓤 H A W T.the-row (LL.lawful T.the-type T′.the-laws 𝓤 H A W) 256 .typed ws _ (has .rows) .0)) $
-          assigns ! (addr ! (from ! (stop !))) (from ! (stop !)) (init ! 6 refl (tt, tt)) $
-          assigns ! (agg ! (and-then ! (load ! (from ! (stop !)) (look ! 6 refl)) (and-then ! (lit ! tt) (no-more !)))) (from ! (stop !)) (init ! 4 refl (tt, (tt, (record { fits = lit< tt }, tt)))) $
-          rewrite ! 4 (λ (z : ℕ). ‵ (fat fullShare slice-g l₇ 0 (sliceVal (l₄, 0) z))) (sym (length-g gs (has .registries))) refl $
-          assigns ! (addr ! (from ! (stop !))) (from ! (stop !)) (init ! 2 refl (tt, tt)) $
-          assigns ! (agg ! (and-then ! (load ! (from ! (stop !)) (look ! 2 refl)) (and-then ! (lit ! tt) (no-more !)))) (from ! (stop !)) (init ! 0 refl (tt, (tt, (record { fits = lit< tt }, tt)))) $
-          rewrite ! 0 (λ (z : ℕ). ‵ (fat fullShare slice-w l₉ 0 (sliceVal (l₅, 0) z))) (sym (length-w ws (has .rows))) refl $
+      -- the arrays come back
+      returned : (ν : ℕ) (δ ε : GName) (r : Answered) (is-r : Is P.the-row r (P′.lowered r ∷ [])) (e : viewLookedUp r ≡ lookUp (lentLedger gs m ws n) (keyPair registry credential)) → Sq W ((‵ (flft (ν ∷ []) fullShare) ⊛ ‵ ftrue) ∷ ‵ (Shared T.the-row tt (λ z. LL.val T.the-type T′.the-laws z) (LL.tells T.the-type T′.the-laws) 256 (ν ∷ []) l₅ 0 ws) ∷ ‵ (Shared G.the-row tt (λ z. LL.val G.the-type G′.the-laws z) (LL.tells G.the-type G′.the-laws) 16 (ν ∷ []) l₄ 0 gs) ∷ ‵ (fat fullShare slice-w l₉ 0 (sliceVal (l₅, 0) (length ws))) ∷ ‵ (fdies slice-w l₉) ∷ ‵ (fat fullShare aref-w l₈ 0 (vptr l₅ 0)) ∷ ‵ (fdies aref-w l₈) ∷ ‵ (fat fullShare slice-g l₇ 0 (sliceVal (l₄, 0) (length gs))) ∷ ‵ (fdies slice-g l₇) ∷ ‵ (fat fullShare aref-g l₆ 0 (vptr l₄ 0)) ∷ ‵ (fdies aref-g l₆) ∷ ‵ (fdies arr-w l₅) ∷ ‵ (fdies arr-g l₄) ∷ ‵ (fat fullShare S′.mir l₃ 0 (S′.lowered credential)) ∷ ‵ (fdies S′.mir l₃) ∷ ‵ (fat fullShare S′.mir l₂ 0 (S′.lowered registry)) ∷ ‵ (fdies S′.mir l₂) ∷ ‵ (fat fullShare K′.mir l₁ 0 (spelled ledger)) ∷ ‵ (fdies K′.mir l₁) ∷ ‵ (fat fullShare P′.mir l₀ 0 (P′.lowered r)) ∷ ‵ (fdies P′.mir l₀) ∷ []) (runs C Λ En mirᶠ.t-8 (atRet En Post))
+      returned ν δ ε r is-r e =
+          split ! $
+          move ! (1 ∷ []) $
+          drop ! $
+          lft-end ! tt $
+          use1 W (‵ (fdead (ν ∷ [])) ⊛ ‵ (fdead (ν ∷ []))) (W .lfts .dead-dup (ν ∷ [])) $ split ! $
+          move ! (0 ∷ 3 ∷ []) $
+          use2 W (later (‵ (fat fullShare arr-g l₄ 0 (low-g gs)) ⊛ ‵ (Array G.the-row 16 .own gs (low-g gs ∷ [])))) (unshares G.the-row tt (λ z. LL.val G.the-type G′.the-laws z) (LL.tells G.the-type G′.the-laws) 16 (ν ∷ []) l₄ 0 𝓤 H A W gs (length-g gs (has .registries))) $
+          await ! tt $
+          split ! $
+          move ! (1 ∷ []) $
+          drop ! $
+          move ! (1 ∷ 2 ∷ []) $
+          use2 W (later (‵ (fat fullShare arr-w l₅ 0 (low-w ws)) ⊛ ‵ (Array T.the-row 256 .own ws (low-w ws ∷ [])))) (unshares T.the-row tt (λ z. LL.val T.the-type T′.the-laws z) (LL.tells T.the-type T′.the-laws) 256 (ν ∷ []) l₅ 0 𝓤 H A W ws (length-w ws (has .rows))) $
+          await ! tt $
+          split ! $
+          move ! (1 ∷ []) $
+          drop ! $
+          leaves r is-r e
+
+      -- they are lent, and the call is made
+      lent : Sq W (‵ (fat fullShare slice-w l₉ 0 (sliceVal (l₅, 0) (length ws))) ∷ ‵ (fdies slice-w l₉) ∷ ‵ (fat fullShare aref-w l₈ 0 (vptr l₅ 0)) ∷ ‵ (fdies aref-w l₈) ∷ ‵ (fat fullShare slice-g l₇ 0 (sliceVal (l₄, 0) (length gs))) ∷ ‵ (fdies slice-g l₇) ∷ ‵ (fat fullShare aref-g l₆ 0 (vptr l₄ 0)) ∷ ‵ (fdies aref-g l₆) ∷ ‵ (fat fullShare arr-w l₅ 0 (low-w ws)) ∷ ‵ (fdies arr-w l₅) ∷ ‵ (fat fullShare arr-g l₄ 0 (low-g gs)) ∷ ‵ (fdies arr-g l₄) ∷ ‵ (fat fullShare S′.mir l₃ 0 (S′.lowered credential)) ∷ ‵ (fdies S′.mir l₃) ∷ ‵ (fat fullShare S′.mir l₂ 0 (S′.lowered registry)) ∷ ‵ (fdies S′.mir l₂) ∷ ‵ (fat fullShare K′.mir l₁ 0 (spelled ledger)) ∷ ‵ (fdies K′.mir l₁) ∷ ‵ (froom P′.mir l₀ 0) ∷ ‵ (fdies P′.mir l₀) ∷ []) (runs C Λ En mirᶠ.t-7 (atRet En Post))
+      lent =
           lft-new ! tt (λ ν. owned ! (Array G.the-row 16) (Is (Array G.the-row 16)) (array-makes 𝓤 H A W G.the-row ((LL.makes G.the-type G′.the-plain) 𝓤 H A) 16) gs _ (has .registries) $
           move ! (12 ∷ 0 ∷ []) $
           use2 W (later (some (λ (δ : GName). ‵ (ShrSlice (named 0) (ν ∷ []) G.the-row .own (record { ptr = (l₄, 0); name = δ; now = gs }) (sliceVal (l₄, 0) (length gs) ∷ [])) ⊛ ‵ (Shared G.the-row tt (λ z. LL.val G.the-type G′.the-laws z) (LL.tells G.the-type G′.the-laws) 16 (ν ∷ []) l₄ 0 gs)))) (shares G.the-row tt (λ z. LL.val G.the-type G′.the-laws z) (LL.tells G.the-type G′.the-laws) 16 (ν ∷ []) l₄ 0 𝓤 H A W (named 0) gs (room-g gs (has .registries))) $
@@ -227,24 +242,19 @@ module _ {M : Type 1} (𝓤 : URA M) (H : Heap 𝓤) (A : Atoms 𝓤) (W : Given
           peeks ! P.the-row (Is P.the-row) (shows 𝓤 H A P.the-row) r (u ∷ []) (λ is-r. drop ! $
           land ! (from ! (stop !)) (init ! 19 refl (LL.lawful P.the-type P′.the-laws 𝓤 H A W .typed r _ is-r .0)) $
           rewrite ! 19 (λ (z : Val). ‵ (fat fullShare P′.mir l₀ 0 (z))) (ap only (LL.tells P.the-type P′.the-laws r _ is-r)) refl $
-          split ! $
-          move ! (1 ∷ []) $
-          drop ! $
-          lft-end ! tt $
-          use1 W (‵ (fdead (ν ∷ [])) ⊛ ‵ (fdead (ν ∷ []))) (W .lfts .dead-dup (ν ∷ [])) $ split ! $
-          move ! (0 ∷ 3 ∷ []) $
-          use2 W (later (‵ (fat fullShare arr-g l₄ 0 (low-g gs)) ⊛ ‵ (Array G.the-row 16 .own gs (low-g gs ∷ [])))) (unshares G.the-row tt (λ z. LL.val G.the-type G′.the-laws z) (LL.tells G.the-type G′.the-laws) 16 (ν ∷ []) l₄ 0 𝓤 H A W gs (length-g gs (has .registries))) $
-          await ! tt $
-          split ! $
-          move ! (1 ∷ []) $
-          drop ! $
-          move ! (1 ∷ 2 ∷ []) $
-          use2 W (later (‵ (fat fullShare arr-w l₅ 0 (low-w ws)) ⊛ ‵ (Array T.the-row 256 .own ws (low-w ws ∷ [])))) (unshares T.the-row tt (λ z. LL.val T.the-type T′.the-laws z) (LL.tells T.the-type T′.the-laws) 256 (ν ∷ []) l₅ 0 𝓤 H A W ws (length-w ws (has .rows))) $
-          await ! tt $
-          split ! $
-          move ! (1 ∷ []) $
-          drop ! $
-          leaves r (subst (λ (vs : List Val). Is P.the-row r vs) (LL.tells P.the-type P′.the-laws r _ is-r) is-r) e)))))))
+          returned ν δ ε r (subst (λ (vs : List Val). Is P.the-row r vs) (LL.tells P.the-type P′.the-laws r _ is-r) is-r) e)))))))
+
+      begins : Sq W (‵ (froom slice-w l₉ 0) ∷ ‵ (fdies slice-w l₉) ∷ ‵ (froom aref-w l₈ 0) ∷ ‵ (fdies aref-w l₈) ∷ ‵ (froom slice-g l₇ 0) ∷ ‵ (fdies slice-g l₇) ∷ ‵ (froom aref-g l₆ 0) ∷ ‵ (fdies aref-g l₆) ∷ ‵ (froom arr-w l₅ 0) ∷ ‵ (fdies arr-w l₅) ∷ ‵ (froom arr-g l₄ 0) ∷ ‵ (fdies arr-g l₄) ∷ ‵ (fat fullShare S′.mir l₃ 0 (S′.lowered credential)) ∷ ‵ (fdies S′.mir l₃) ∷ ‵ (fat fullShare S′.mir l₂ 0 (S′.lowered registry)) ∷ ‵ (fdies S′.mir l₂) ∷ ‵ (fat fullShare K′.mir l₁ 0 (spelled ledger)) ∷ ‵ (fdies K′.mir l₁) ∷ ‵ (froom P′.mir l₀ 0) ∷ ‵ (fdies P′.mir l₀) ∷ []) (runs C Λ En mirᶠ.t-1 (atRet En Post))
+      begins =
+          assigns ! (of-opd ! (load ! (from ! (fld ! refl (stop !))) (look-in ! 16 (sub ! 0 refl (whole !))))) (from ! (stop !)) (init ! 10 refl (array-lawful 𝓤 H A W G.the-row (LL.lawful G.the-type G′.the-laws 𝓤 H A W) 16 .typed gs _ (has .registries) .0)) $
+          assigns ! (of-opd ! (load ! (from ! (fld ! refl (stop !))) (look-in ! 16 (sub ! 2 refl (whole !))))) (from ! (stop !)) (init ! 8 refl (array-lawful 𝓤 H A W T.the-row (LL.lawful T.the-type T′.the-laws 𝓤 H A W) 256 .typed ws _ (has .rows) .0)) $
+          assigns ! (addr ! (from ! (stop !))) (from ! (stop !)) (init ! 6 refl (tt, tt)) $
+          assigns ! (agg ! (and-then ! (load ! (from ! (stop !)) (look ! 6 refl)) (and-then ! (lit ! tt) (no-more !)))) (from ! (stop !)) (init ! 4 refl (tt, (tt, (record { fits = lit< tt }, tt)))) $
+          rewrite ! 4 (λ (z : ℕ). ‵ (fat fullShare slice-g l₇ 0 (sliceVal (l₄, 0) z))) (sym (length-g gs (has .registries))) refl $
+          assigns ! (addr ! (from ! (stop !))) (from ! (stop !)) (init ! 2 refl (tt, tt)) $
+          assigns ! (agg ! (and-then ! (load ! (from ! (stop !)) (look ! 2 refl)) (and-then ! (lit ! tt) (no-more !)))) (from ! (stop !)) (init ! 0 refl (tt, (tt, (record { fits = lit< tt }, tt)))) $
+          rewrite ! 0 (λ (z : ℕ). ‵ (fat fullShare slice-w l₉ 0 (sliceVal (l₅, 0) z))) (sym (length-w ws (has .rows))) refl $
+          lent
 
     walk : ent 𝓤 (onEntry 𝓤 H A me.signature tt tt x at) (WpFn 𝓤 H C Λ code.function (spelled ledger ∷ S′.lowered registry ∷ S′.lowered credential ∷ []) Post)
     walk =

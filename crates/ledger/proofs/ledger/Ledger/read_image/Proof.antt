@@ -30,7 +30,7 @@ use denote.Lend.{Held}
 use denote.Plain.{uint-makes}
 use denote.Builtin.{u8, usize}
 use denote.Ref.{RefT}
-use denote.Slice.{sliceTy, sliceVal, MutSlice, ShrSlice, Room, slice-vals, shr-slice-tells}
+use denote.Slice.{sliceTy, sliceVal, MutSlice, ShrSlice, Room, slice-vals, shr-slice-tells, finally}
 use denote.Signature.{plain, shrSliceOf}
 use denote.Steps.{only, owned, peeks, heard, nothing}
 use denote.Struct.Laws as LL
@@ -243,26 +243,42 @@ module _ {M : Type 1} (𝓤 : URA M) (H : Heap 𝓤) (A : Atoms 𝓤) (W : Given
           free0 ! $
           by ! (exits r gs′ ws′ is-r e is-gs is-ws)
 
-      begins : Sq W (‵ (froom arr-w l₁₂ 0) ∷ ‵ (fdies arr-w l₁₂) ∷ ‵ (froom arr-g l₁₁ 0) ∷ ‵ (fdies arr-g l₁₁) ∷ ‵ (froom slice-w l₁₀ 0) ∷ ‵ (fdies slice-w l₁₀) ∷ ‵ (froom aref-w l₉ 0) ∷ ‵ (fdies aref-w l₉) ∷ ‵ (froom slice-g l₈ 0) ∷ ‵ (fdies slice-g l₈) ∷ ‵ (froom aref-g l₇ 0) ∷ ‵ (fdies aref-g l₇) ∷ ‵ (froom K′.mir l₆ 0) ∷ ‵ (fdies K′.mir l₆) ∷ ‵ (froom I′.mir l₅ 0) ∷ ‵ (fdies I′.mir l₅) ∷ ‵ (froom arr-w l₄ 0) ∷ ‵ (fdies arr-w l₄) ∷ ‵ (froom arr-g l₃ 0) ∷ ‵ (fdies arr-g l₃) ∷ ‵ (fat fullShare slice-image l₂ 0 (val-image)) ∷ ‵ (fdies slice-image l₂) ∷ ‵ (fat fullShare K′.mir l₁ 0 (spelled ledger)) ∷ ‵ (fdies K′.mir l₁) ∷ ‵ (froom N′.mir l₀ 0) ∷ ‵ (fdies N′.mir l₀) ∷ (‵ (flft κ q) ⊛ ‵ ftrue) ∷ ‵ (owns (K.the-row ∷ ShrSlice (named 0) κ u8 ∷ []) x at) ∷ []) (runs C Λ En mirᶠ.t-1 (atRet En Post))
-      begins =
-          move ! (27 ∷ []) $
-          fsplit ! $
-          drop ! $
-          fsplit ! $
+      -- the arrays come back
+      returned : (ν μ : ℕ) (δ ε : GName) (r : ImageRead) (zs : Unit {0} × (List RegistryState × (Unit {0} × (List CredentialState × (Unit {0} × Unit {0}))))) (is-r : Is I.the-row r (I′.lowered r ∷ [])) (e : (r .number ≡ imageNumber (imageInto (length gs) (length ws) image)) × (countsOf r ≡ countsAfter (imageInto (length gs) (length ws) image) m n) × ((zs .1 .1 .1 .0) ≡ rowsAfter (imageInto (length gs) (length ws) image) ws) × (RegistriesAfter (imageInto (length gs) (length ws) image) gs (zs .1 .0))) → Sq W ((‵ (flft κ q) ⊛ ‵ (flft (ν ∷ []) fullShare) ⊛ ‵ (flft (μ ∷ []) fullShare) ⊛ ‵ ftrue) ∷ ‵ (finally T.the-row ε (zs .1 .1 .1 .0)) ∷ ‵ (finally G.the-row δ (zs .1 .0)) ∷ ‵ (flent (μ ∷ []) (Held T.the-row (length ws) l₄ 0 ε)) ∷ ‵ (flent (ν ∷ []) (Held G.the-row (length gs) l₃ 0 δ)) ∷ ‵ (froom arr-w l₁₂ 0) ∷ ‵ (fdies arr-w l₁₂) ∷ ‵ (froom arr-g l₁₁ 0) ∷ ‵ (fdies arr-g l₁₁) ∷ ‵ (fat fullShare slice-w l₁₀ 0 (sliceVal (l₄, 0) (length ws))) ∷ ‵ (fdies slice-w l₁₀) ∷ ‵ (fat fullShare aref-w l₉ 0 (vptr l₄ 0)) ∷ ‵ (fdies aref-w l₉) ∷ ‵ (fat fullShare slice-g l₈ 0 (sliceVal (l₃, 0) (length gs))) ∷ ‵ (fdies slice-g l₈) ∷ ‵ (fat fullShare aref-g l₇ 0 (vptr l₃ 0)) ∷ ‵ (fdies aref-g l₇) ∷ ‵ (froom K′.mir l₆ 0) ∷ ‵ (fdies K′.mir l₆) ∷ ‵ (fat fullShare I′.mir l₅ 0 (I′.lowered r)) ∷ ‵ (fdies I′.mir l₅) ∷ ‵ (fdies arr-w l₄) ∷ ‵ (fdies arr-g l₃) ∷ ‵ (fat fullShare slice-image l₂ 0 (val-image)) ∷ ‵ (fdies slice-image l₂) ∷ ‵ (fat fullShare K′.mir l₁ 0 (spelled ledger)) ∷ ‵ (fdies K′.mir l₁) ∷ ‵ (froom N′.mir l₀ 0) ∷ ‵ (fdies N′.mir l₀) ∷ []) (runs C Λ En mirᶠ.t-8 (atRet En Post))
+      returned ν μ δ ε r zs is-r e =
+          split ! $
           move ! (1 ∷ []) $
-          drop ! $
-          move ! (27 ∷ []) $
+          split ! $
+          move ! (1 ∷ []) $
           split ! $
           move ! (1 ∷ []) $
           drop ! $
-          assigns ! (of-opd ! (load ! (from ! (fld ! refl (stop !))) (look-in ! 24 (sub ! 0 refl (whole !))))) (from ! (stop !)) (init ! 20 refl (array-lawful 𝓤 H A W G.the-row (LL.lawful G.the-type G′.the-laws 𝓤 H A W) 16 .typed gs _ (has .registries) .0)) $
-          assigns ! (of-opd ! (load ! (from ! (fld ! refl (stop !))) (look-in ! 24 (sub ! 2 refl (whole !))))) (from ! (stop !)) (init ! 18 refl (array-lawful 𝓤 H A W T.the-row (LL.lawful T.the-type T′.the-laws 𝓤 H A W) 256 .typed ws _ (has .rows) .0)) $
-          assigns ! (addr ! (from ! (stop !))) (from ! (stop !)) (init ! 12 refl (tt, tt)) $
-          assigns ! (agg ! (and-then ! (load ! (from ! (stop !)) (look ! 12 refl)) (and-then ! (lit ! tt) (no-more !)))) (from ! (stop !)) (init ! 10 refl (tt, (tt, (record { fits = lit< tt }, tt)))) $
-          rewrite ! 10 (λ (z : ℕ). ‵ (fat fullShare slice-g l₈ 0 (sliceVal (l₃, 0) z))) (sym (length-g gs (has .registries))) refl $
-          assigns ! (addr ! (from ! (stop !))) (from ! (stop !)) (init ! 8 refl (tt, tt)) $
-          assigns ! (agg ! (and-then ! (load ! (from ! (stop !)) (look ! 8 refl)) (and-then ! (lit ! tt) (no-more !)))) (from ! (stop !)) (init ! 6 refl (tt, (tt, (record { fits = lit< tt }, tt)))) $
-          rewrite ! 6 (λ (z : ℕ). ‵ (fat fullShare slice-w l₁₀ 0 (sliceVal (l₄, 0) z))) (sym (length-w ws (has .rows))) refl $
+          move ! (1 ∷ []) $
+          lft-end ! tt $
+          move ! (1 ∷ []) $
+          lft-end ! tt $
+          move ! (6 ∷ []) $
+          rewrite ! 0 (λ (k : ℕ). ‵ (flent (ν ∷ []) (Held G.the-row k l₃ 0 δ))) (length-g gs (has .registries)) refl $
+          move ! (2 ∷ 0 ∷ 5 ∷ []) $
+          use3 W (later (‵ (fat fullShare arr-g l₃ 0 (low-g (zs .1 .0))) ⊛ ‵ (Array G.the-row 16 .own (zs .1 .0) (low-g (zs .1 .0) ∷ [])))) (backs G.the-row tt (λ z. LL.val G.the-type G′.the-laws z) (LL.tells G.the-type G′.the-laws) 16 (ν ∷ []) l₃ 0 𝓤 H A W δ (zs .1 .0)) $
+          await ! tt $
+          split ! $
+          move ! (1 ∷ []) $
+          peeks ! (Array G.the-row 16) (Is (Array G.the-row 16)) (shows 𝓤 H A (Array G.the-row 16)) (zs .1 .0) (low-g (zs .1 .0) ∷ []) (λ is-gs. drop ! $
+          move ! (4 ∷ []) $
+          rewrite ! 0 (λ (k : ℕ). ‵ (flent (μ ∷ []) (Held T.the-row k l₄ 0 ε))) (length-w ws (has .rows)) refl $
+          move ! (2 ∷ 0 ∷ 4 ∷ []) $
+          use3 W (later (‵ (fat fullShare arr-w l₄ 0 (low-w (zs .1 .1 .1 .0))) ⊛ ‵ (Array T.the-row 256 .own (zs .1 .1 .1 .0) (low-w (zs .1 .1 .1 .0) ∷ [])))) (backs T.the-row tt (λ z. LL.val T.the-type T′.the-laws z) (LL.tells T.the-type T′.the-laws) 256 (μ ∷ []) l₄ 0 𝓤 H A W ε (zs .1 .1 .1 .0)) $
+          await ! tt $
+          split ! $
+          move ! (1 ∷ []) $
+          peeks ! (Array T.the-row 256) (Is (Array T.the-row 256)) (shows 𝓤 H A (Array T.the-row 256)) (zs .1 .1 .1 .0) (low-w (zs .1 .1 .1 .0) ∷ []) (λ is-ws. drop ! $
+          move ! (2 ∷ []) $
+          leaves r (zs .1 .0) (zs .1 .1 .1 .0) is-r e is-gs is-ws))
+
+      -- they are lent, and the call is made
+      lent : Sq W (‵ (flft κ q) ∷ ‵ Own-image ∷ ‵ (froom arr-w l₁₂ 0) ∷ ‵ (fdies arr-w l₁₂) ∷ ‵ (froom arr-g l₁₁ 0) ∷ ‵ (fdies arr-g l₁₁) ∷ ‵ (fat fullShare slice-w l₁₀ 0 (sliceVal (l₄, 0) (length ws))) ∷ ‵ (fdies slice-w l₁₀) ∷ ‵ (fat fullShare aref-w l₉ 0 (vptr l₄ 0)) ∷ ‵ (fdies aref-w l₉) ∷ ‵ (fat fullShare slice-g l₈ 0 (sliceVal (l₃, 0) (length gs))) ∷ ‵ (fdies slice-g l₈) ∷ ‵ (fat fullShare aref-g l₇ 0 (vptr l₃ 0)) ∷ ‵ (fdies aref-g l₇) ∷ ‵ (froom K′.mir l₆ 0) ∷ ‵ (fdies K′.mir l₆) ∷ ‵ (froom I′.mir l₅ 0) ∷ ‵ (fdies I′.mir l₅) ∷ ‵ (fat fullShare arr-w l₄ 0 (low-w ws)) ∷ ‵ (fdies arr-w l₄) ∷ ‵ (fat fullShare arr-g l₃ 0 (low-g gs)) ∷ ‵ (fdies arr-g l₃) ∷ ‵ (fat fullShare slice-image l₂ 0 (val-image)) ∷ ‵ (fdies slice-image l₂) ∷ ‵ (fat fullShare K′.mir l₁ 0 (spelled ledger)) ∷ ‵ (fdies K′.mir l₁) ∷ ‵ (froom N′.mir l₀ 0) ∷ ‵ (fdies N′.mir l₀) ∷ []) (runs C Λ En mirᶠ.t-7 (atRet En Post))
+      lent =
           lft-new ! tt (λ ν. lft-new ! tt (λ μ. owned ! (Array G.the-row 16) (Is (Array G.the-row 16)) (array-makes 𝓤 H A W G.the-row ((LL.makes G.the-type G′.the-plain) 𝓤 H A) 16) gs _ (has .registries) $
           move ! (23 ∷ 0 ∷ []) $
           use2 W (later (some (λ (δ : GName). ‵ (MutSlice (named 1) (ν ∷ []) G.the-row .own (record { ptr = (l₃, 0); name = δ; now = gs }) (sliceVal (l₃, 0) (length gs) ∷ [])) ⊛ ‵ (flent (ν ∷ []) (Held G.the-row (length gs) l₃ 0 δ))))) (lends G.the-row tt (λ z. LL.val G.the-type G′.the-laws z) (LL.tells G.the-type G′.the-laws) 16 (ν ∷ []) l₃ 0 𝓤 H A W (named 1) gs (room-g gs (has .registries))) $
@@ -315,35 +331,29 @@ module _ {M : Type 1} (𝓤 : URA M) (H : Heap 𝓤) (A : Atoms 𝓤) (W : Given
           peeks ! I.the-row (Is I.the-row) (shows 𝓤 H A I.the-row) r (u ∷ []) (λ is-r. drop ! $
           land ! (from ! (stop !)) (init ! 19 refl (LL.lawful I.the-type I′.the-laws 𝓤 H A W .typed r _ is-r .0)) $
           rewrite ! 19 (λ (z : Val). ‵ (fat fullShare I′.mir l₅ 0 (z))) (ap only (LL.tells I.the-type I′.the-laws r _ is-r)) refl $
-          split ! $
+          returned ν μ δ ε r zs (subst (λ (vs : List Val). Is I.the-row r vs) (LL.tells I.the-type I′.the-laws r _ is-r) is-r) (e0, e1, e2, e3)))))))))))))))
+
+      begins : Sq W (‵ (froom arr-w l₁₂ 0) ∷ ‵ (fdies arr-w l₁₂) ∷ ‵ (froom arr-g l₁₁ 0) ∷ ‵ (fdies arr-g l₁₁) ∷ ‵ (froom slice-w l₁₀ 0) ∷ ‵ (fdies slice-w l₁₀) ∷ ‵ (froom aref-w l₉ 0) ∷ ‵ (fdies aref-w l₉) ∷ ‵ (froom slice-g l₈ 0) ∷ ‵ (fdies slice-g l₈) ∷ ‵ (froom aref-g l₇ 0) ∷ ‵ (fdies aref-g l₇) ∷ ‵ (froom K′.mir l₆ 0) ∷ ‵ (fdies K′.mir l₆) ∷ ‵ (froom I′.mir l₅ 0) ∷ ‵ (fdies I′.mir l₅) ∷ ‵ (froom arr-w l₄ 0) ∷ ‵ (fdies arr-w l₄) ∷ ‵ (froom arr-g l₃ 0) ∷ ‵ (fdies arr-g l₃) ∷ ‵ (fat fullShare slice-image l₂ 0 (val-image)) ∷ ‵ (fdies slice-image l₂) ∷ ‵ (fat fullShare K′.mir l₁ 0 (spelled ledger)) ∷ ‵ (fdies K′.mir l₁) ∷ ‵ (froom N′.mir l₀ 0) ∷ ‵ (fdies N′.mir l₀) ∷ (‵ (flft κ q) ⊛ ‵ ftrue) ∷ ‵ (owns (K.the-row ∷ ShrSlice (named 0) κ u8 ∷ []) x at) ∷ []) (runs C Λ En mirᶠ.t-1 (atRet En Post))
+      begins =
+          move ! (27 ∷ []) $
+          fsplit ! $
+          drop ! $
+          fsplit ! $
           move ! (1 ∷ []) $
-          split ! $
-          move ! (1 ∷ []) $
+          drop ! $
+          move ! (27 ∷ []) $
           split ! $
           move ! (1 ∷ []) $
           drop ! $
-          move ! (1 ∷ []) $
-          lft-end ! tt $
-          move ! (1 ∷ []) $
-          lft-end ! tt $
-          move ! (6 ∷ []) $
-          rewrite ! 0 (λ (k : ℕ). ‵ (flent (ν ∷ []) (Held G.the-row k l₃ 0 δ))) (length-g gs (has .registries)) refl $
-          move ! (2 ∷ 0 ∷ 5 ∷ []) $
-          use3 W (later (‵ (fat fullShare arr-g l₃ 0 (low-g (zs .1 .0))) ⊛ ‵ (Array G.the-row 16 .own (zs .1 .0) (low-g (zs .1 .0) ∷ [])))) (backs G.the-row tt (λ z. LL.val G.the-type G′.the-laws z) (LL.tells G.the-type G′.the-laws) 16 (ν ∷ []) l₃ 0 𝓤 H A W δ (zs .1 .0)) $
-          await ! tt $
-          split ! $
-          move ! (1 ∷ []) $
-          peeks ! (Array G.the-row 16) (Is (Array G.the-row 16)) (shows 𝓤 H A (Array G.the-row 16)) (zs .1 .0) (low-g (zs .1 .0) ∷ []) (λ is-gs. drop ! $
-          move ! (4 ∷ []) $
-          rewrite ! 0 (λ (k : ℕ). ‵ (flent (μ ∷ []) (Held T.the-row k l₄ 0 ε))) (length-w ws (has .rows)) refl $
-          move ! (2 ∷ 0 ∷ 4 ∷ []) $
-          use3 W (later (‵ (fat fullShare arr-w l₄ 0 (low-w (zs .1 .1 .1 .0))) ⊛ ‵ (Array T.the-row 256 .own (zs .1 .1 .1 .0) (low-w (zs .1 .1 .1 .0) ∷ [])))) (backs T.the-row tt (λ z. LL.val T.the-type T′.the-laws z) (LL.tells T.the-type T′.the-laws) 256 (μ ∷ []) l₄ 0 𝓤 H A W ε (zs .1 .1 .1 .0)) $
-          await ! tt $
-          split ! $
-          move ! (1 ∷ []) $
-          peeks ! (Array T.the-row 256) (Is (Array T.the-row 256)) (shows 𝓤 H A (Array T.the-row 256)) (zs .1 .1 .1 .0) (low-w (zs .1 .1 .1 .0) ∷ []) (λ is-ws. drop ! $
-          move ! (2 ∷ []) $
-          leaves r (zs .1 .0) (zs .1 .1 .1 .0) (subst (λ (vs : List Val). Is I.the-row r vs) (LL.tells I.the-type I′.the-laws r _ is-r) is-r) (e0, e1, e2, e3) is-gs is-ws))))))))))))))))
+          assigns ! (of-opd ! (load ! (from ! (fld ! refl (stop !))) (look-in ! 24 (sub ! 0 refl (whole !))))) (from ! (stop !)) (init ! 20 refl (array-lawful 𝓤 H A W G.the-row (LL.lawful G.the-type G′.the-laws 𝓤 H A W) 16 .typed gs _ (has .registries) .0)) $
+          assigns ! (of-opd ! (load ! (from ! (fld ! refl (stop !))) (look-in ! 24 (sub ! 2 refl (whole !))))) (from ! (stop !)) (init ! 18 refl (array-lawful 𝓤 H A W T.the-row (LL.lawful T.the-type T′.the-laws 𝓤 H A W) 256 .typed ws _ (has .rows) .0)) $
+          assigns ! (addr ! (from ! (stop !))) (from ! (stop !)) (init ! 12 refl (tt, tt)) $
+          assigns ! (agg ! (and-then ! (load ! (from ! (stop !)) (look ! 12 refl)) (and-then ! (lit ! tt) (no-more !)))) (from ! (stop !)) (init ! 10 refl (tt, (tt, (record { fits = lit< tt }, tt)))) $
+          rewrite ! 10 (λ (z : ℕ). ‵ (fat fullShare slice-g l₈ 0 (sliceVal (l₃, 0) z))) (sym (length-g gs (has .registries))) refl $
+          assigns ! (addr ! (from ! (stop !))) (from ! (stop !)) (init ! 8 refl (tt, tt)) $
+          assigns ! (agg ! (and-then ! (load ! (from ! (stop !)) (look ! 8 refl)) (and-then ! (lit ! tt) (no-more !)))) (from ! (stop !)) (init ! 6 refl (tt, (tt, (record { fits = lit< tt }, tt)))) $
+          rewrite ! 6 (λ (z : ℕ). ‵ (fat fullShare slice-w l₁₀ 0 (sliceVal (l₄, 0) z))) (sym (length-w ws (has .rows))) refl $
+          lent
 
     walk : ent 𝓤 (onEntry 𝓤 H A me.signature (κ, tt) (q, tt) x at) (WpFn 𝓤 H C Λ code.function (spelled ledger ∷ val-image ∷ []) Post)
     walk =

@@ -207,28 +207,35 @@ module _ {M : Type 1} (𝓤 : URA M) (H : Heap 𝓤) (A : Atoms 𝓤) (W : Given
           free0 ! $
           by ! (exits r out′ is-r e len-out)
 
-      begins : Sq W (‵ (froom (sliceTy again-out) l₁₀ 0) ∷ ‵ (fdies (sliceTy again-out) l₁₀) ∷ ‵ (froom again-out l₉ 0) ∷ ‵ (fdies again-out l₉) ∷ ‵ (froom slice-w l₈ 0) ∷ ‵ (fdies slice-w l₈) ∷ ‵ (froom aref-w l₇ 0) ∷ ‵ (fdies aref-w l₇) ∷ ‵ (froom slice-g l₆ 0) ∷ ‵ (fdies slice-g l₆) ∷ ‵ (froom aref-g l₅ 0) ∷ ‵ (fdies aref-g l₅) ∷ ‵ (froom arr-w l₄ 0) ∷ ‵ (fdies arr-w l₄) ∷ ‵ (froom arr-g l₃ 0) ∷ ‵ (fdies arr-g l₃) ∷ ‵ (fat fullShare slice-out l₂ 0 (val-out)) ∷ ‵ (fdies slice-out l₂) ∷ ‵ (fat fullShare K′.mir l₁ 0 (spelled ledger)) ∷ ‵ (fdies K′.mir l₁) ∷ ‵ (froom P′.mir l₀ 0) ∷ ‵ (fdies P′.mir l₀) ∷ (‵ (flft κ q) ⊛ ‵ ftrue) ∷ ‵ (owns (K.the-row ∷ MutSlice (named 0) κ u8 ∷ []) x at) ∷ []) (runs C Λ En mirᶠ.t-1 (atRet En Post))
-      begins =
-          move ! (23 ∷ []) $
-          fsplit ! $
-          drop ! $
-          fsplit ! $
+      -- the arrays come back
+      returned : (ν : ℕ) (δ ε : GName) (r : Answered) (zs : Unit {0} × (Unit {0} × (Unit {0} × (Unit {0} × (List ℕ × Unit {0}))))) (is-r : Is P.the-row r (P′.lowered r ∷ [])) (e : viewWritten r (zs .1 .1 .1 .1 .0) ≡ writtenOf (lentLedger gs m ws n) out) (len-out : length (zs .1 .1 .1 .1 .0) ≡ length out) → Sq W ((‵ (flft (ν ∷ []) fullShare) ⊛ ‵ (flft κ q) ⊛ ‵ ftrue) ∷ ‵ (finally u8 γ-out (zs .1 .1 .1 .1 .0)) ∷ ‵ (Shared T.the-row tt (λ z. LL.val T.the-type T′.the-laws z) (LL.tells T.the-type T′.the-laws) 256 (ν ∷ []) l₄ 0 ws) ∷ ‵ (Shared G.the-row tt (λ z. LL.val G.the-type G′.the-laws z) (LL.tells G.the-type G′.the-laws) 16 (ν ∷ []) l₃ 0 gs) ∷ ‵ (fat fullShare (sliceTy again-out) l₁₀ 0 (val-out)) ∷ ‵ (fdies (sliceTy again-out) l₁₀) ∷ ‵ (fat fullShare again-out l₉ 0 (vptr b-out o-out)) ∷ ‵ (fdies again-out l₉) ∷ ‵ (fat fullShare slice-w l₈ 0 (sliceVal (l₄, 0) (length ws))) ∷ ‵ (fdies slice-w l₈) ∷ ‵ (fat fullShare aref-w l₇ 0 (vptr l₄ 0)) ∷ ‵ (fdies aref-w l₇) ∷ ‵ (fat fullShare slice-g l₆ 0 (sliceVal (l₃, 0) (length gs))) ∷ ‵ (fdies slice-g l₆) ∷ ‵ (fat fullShare aref-g l₅ 0 (vptr l₃ 0)) ∷ ‵ (fdies aref-g l₅) ∷ ‵ (fdies arr-w l₄) ∷ ‵ (fdies arr-g l₃) ∷ ‵ (fat fullShare slice-out l₂ 0 (val-out)) ∷ ‵ (fdies slice-out l₂) ∷ ‵ (fat fullShare K′.mir l₁ 0 (spelled ledger)) ∷ ‵ (fdies K′.mir l₁) ∷ ‵ (fat fullShare P′.mir l₀ 0 (P′.lowered r)) ∷ ‵ (fdies P′.mir l₀) ∷ []) (runs C Λ En mirᶠ.t-10 (atRet En Post))
+      returned ν δ ε r zs is-r e len-out =
+          split ! $
           move ! (1 ∷ []) $
-          drop ! $
-          move ! (23 ∷ []) $
           split ! $
           move ! (1 ∷ []) $
           drop ! $
-          assigns ! (of-opd ! (load ! (from ! (fld ! refl (stop !))) (look-in ! 20 (sub ! 0 refl (whole !))))) (from ! (stop !)) (init ! 16 refl (array-lawful 𝓤 H A W G.the-row (LL.lawful G.the-type G′.the-laws 𝓤 H A W) 16 .typed gs _ (has .registries) .0)) $
-          assigns ! (of-opd ! (load ! (from ! (fld ! refl (stop !))) (look-in ! 20 (sub ! 2 refl (whole !))))) (from ! (stop !)) (init ! 14 refl (array-lawful 𝓤 H A W T.the-row (LL.lawful T.the-type T′.the-laws 𝓤 H A W) 256 .typed ws _ (has .rows) .0)) $
-          assigns ! (addr ! (from ! (stop !))) (from ! (stop !)) (init ! 12 refl (tt, tt)) $
-          assigns ! (agg ! (and-then ! (load ! (from ! (stop !)) (look ! 12 refl)) (and-then ! (lit ! tt) (no-more !)))) (from ! (stop !)) (init ! 10 refl (tt, (tt, (record { fits = lit< tt }, tt)))) $
-          rewrite ! 10 (λ (z : ℕ). ‵ (fat fullShare slice-g l₆ 0 (sliceVal (l₃, 0) z))) (sym (length-g gs (has .registries))) refl $
-          assigns ! (addr ! (from ! (stop !))) (from ! (stop !)) (init ! 8 refl (tt, tt)) $
-          assigns ! (agg ! (and-then ! (load ! (from ! (stop !)) (look ! 8 refl)) (and-then ! (lit ! tt) (no-more !)))) (from ! (stop !)) (init ! 6 refl (tt, (tt, (record { fits = lit< tt }, tt)))) $
-          rewrite ! 6 (λ (z : ℕ). ‵ (fat fullShare slice-w l₈ 0 (sliceVal (l₄, 0) z))) (sym (length-w ws (has .rows))) refl $
-          assigns ! (addr ! (from ! (fld ! refl (hop ! (look-in ! 18 (sub ! 0 refl (whole !))) (stop !))))) (from ! (stop !)) (init ! 4 refl (tt, tt)) $
-          assigns ! (agg ! (and-then ! (load ! (from ! (stop !)) (look ! 4 refl)) (and-then ! (load ! (from ! (fld ! refl (stop !))) (look-in ! 18 (sub ! 1 refl (whole !)))) (no-more !)))) (from ! (stop !)) (init ! 2 refl (tt, (tt, (record { fits = room-out .0 }, tt)))) $
+          move ! (1 ∷ []) $
+          lft-end ! tt $
+          use1 W (‵ (fdead (ν ∷ [])) ⊛ ‵ (fdead (ν ∷ []))) (W .lfts .dead-dup (ν ∷ [])) $ split ! $
+          move ! (0 ∷ 5 ∷ []) $
+          use2 W (later (‵ (fat fullShare arr-g l₃ 0 (low-g gs)) ⊛ ‵ (Array G.the-row 16 .own gs (low-g gs ∷ [])))) (unshares G.the-row tt (λ z. LL.val G.the-type G′.the-laws z) (LL.tells G.the-type G′.the-laws) 16 (ν ∷ []) l₃ 0 𝓤 H A W gs (length-g gs (has .registries))) $
+          await ! tt $
+          split ! $
+          move ! (1 ∷ []) $
+          drop ! $
+          move ! (1 ∷ 4 ∷ []) $
+          use2 W (later (‵ (fat fullShare arr-w l₄ 0 (low-w ws)) ⊛ ‵ (Array T.the-row 256 .own ws (low-w ws ∷ [])))) (unshares T.the-row tt (λ z. LL.val T.the-type T′.the-laws z) (LL.tells T.the-type T′.the-laws) 256 (ν ∷ []) l₄ 0 𝓤 H A W ws (length-w ws (has .rows))) $
+          await ! tt $
+          split ! $
+          move ! (1 ∷ []) $
+          drop ! $
+          move ! (2 ∷ 3 ∷ []) $
+          leaves r (zs .1 .1 .1 .1 .0) is-r e len-out
+
+      -- they are lent, and the call is made
+      lent : Sq W (‵ (flft κ q) ∷ ‵ Own-out ∷ ‵ (fat fullShare (sliceTy again-out) l₁₀ 0 (val-out)) ∷ ‵ (fdies (sliceTy again-out) l₁₀) ∷ ‵ (fat fullShare again-out l₉ 0 (vptr b-out o-out)) ∷ ‵ (fdies again-out l₉) ∷ ‵ (fat fullShare slice-w l₈ 0 (sliceVal (l₄, 0) (length ws))) ∷ ‵ (fdies slice-w l₈) ∷ ‵ (fat fullShare aref-w l₇ 0 (vptr l₄ 0)) ∷ ‵ (fdies aref-w l₇) ∷ ‵ (fat fullShare slice-g l₆ 0 (sliceVal (l₃, 0) (length gs))) ∷ ‵ (fdies slice-g l₆) ∷ ‵ (fat fullShare aref-g l₅ 0 (vptr l₃ 0)) ∷ ‵ (fdies aref-g l₅) ∷ ‵ (fat fullShare arr-w l₄ 0 (low-w ws)) ∷ ‵ (fdies arr-w l₄) ∷ ‵ (fat fullShare arr-g l₃ 0 (low-g gs)) ∷ ‵ (fdies arr-g l₃) ∷ ‵ (fat fullShare slice-out l₂ 0 (val-out)) ∷ ‵ (fdies slice-out l₂) ∷ ‵ (fat fullShare K′.mir l₁ 0 (spelled ledger)) ∷ ‵ (fdies K′.mir l₁) ∷ ‵ (froom P′.mir l₀ 0) ∷ ‵ (fdies P′.mir l₀) ∷ []) (runs C Λ En mirᶠ.t-9 (atRet En Post))
+      lent =
           lft-new ! tt (λ ν. owned ! (Array G.the-row 16) (Is (Array G.the-row 16)) (array-makes 𝓤 H A W G.the-row ((LL.makes G.the-type G′.the-plain) 𝓤 H A) 16) gs _ (has .registries) $
           move ! (18 ∷ 0 ∷ []) $
           use2 W (later (some (λ (δ : GName). ‵ (ShrSlice (named 0) (ν ∷ []) G.the-row .own (record { ptr = (l₃, 0); name = δ; now = gs }) (sliceVal (l₃, 0) (length gs) ∷ [])) ⊛ ‵ (Shared G.the-row tt (λ z. LL.val G.the-type G′.the-laws z) (LL.tells G.the-type G′.the-laws) 16 (ν ∷ []) l₃ 0 gs)))) (shares G.the-row tt (λ z. LL.val G.the-type G′.the-laws z) (LL.tells G.the-type G′.the-laws) 16 (ν ∷ []) l₃ 0 𝓤 H A W (named 0) gs (room-g gs (has .registries))) $
@@ -274,28 +281,31 @@ module _ {M : Type 1} (𝓤 : URA M) (H : Heap 𝓤) (A : Atoms 𝓤) (W : Given
           peeks ! P.the-row (Is P.the-row) (shows 𝓤 H A P.the-row) r (u ∷ []) (λ is-r. drop ! $
           land ! (from ! (stop !)) (init ! 22 refl (LL.lawful P.the-type P′.the-laws 𝓤 H A W .typed r _ is-r .0)) $
           rewrite ! 22 (λ (z : Val). ‵ (fat fullShare P′.mir l₀ 0 (z))) (ap only (LL.tells P.the-type P′.the-laws r _ is-r)) refl $
-          split ! $
+          returned ν δ ε r zs (subst (λ (vs : List Val). Is P.the-row r vs) (LL.tells P.the-type P′.the-laws r _ is-r) is-r) e len-out)))))))))
+
+      begins : Sq W (‵ (froom (sliceTy again-out) l₁₀ 0) ∷ ‵ (fdies (sliceTy again-out) l₁₀) ∷ ‵ (froom again-out l₉ 0) ∷ ‵ (fdies again-out l₉) ∷ ‵ (froom slice-w l₈ 0) ∷ ‵ (fdies slice-w l₈) ∷ ‵ (froom aref-w l₇ 0) ∷ ‵ (fdies aref-w l₇) ∷ ‵ (froom slice-g l₆ 0) ∷ ‵ (fdies slice-g l₆) ∷ ‵ (froom aref-g l₅ 0) ∷ ‵ (fdies aref-g l₅) ∷ ‵ (froom arr-w l₄ 0) ∷ ‵ (fdies arr-w l₄) ∷ ‵ (froom arr-g l₃ 0) ∷ ‵ (fdies arr-g l₃) ∷ ‵ (fat fullShare slice-out l₂ 0 (val-out)) ∷ ‵ (fdies slice-out l₂) ∷ ‵ (fat fullShare K′.mir l₁ 0 (spelled ledger)) ∷ ‵ (fdies K′.mir l₁) ∷ ‵ (froom P′.mir l₀ 0) ∷ ‵ (fdies P′.mir l₀) ∷ (‵ (flft κ q) ⊛ ‵ ftrue) ∷ ‵ (owns (K.the-row ∷ MutSlice (named 0) κ u8 ∷ []) x at) ∷ []) (runs C Λ En mirᶠ.t-1 (atRet En Post))
+      begins =
+          move ! (23 ∷ []) $
+          fsplit ! $
+          drop ! $
+          fsplit ! $
           move ! (1 ∷ []) $
+          drop ! $
+          move ! (23 ∷ []) $
           split ! $
           move ! (1 ∷ []) $
           drop ! $
-          move ! (1 ∷ []) $
-          lft-end ! tt $
-          use1 W (‵ (fdead (ν ∷ [])) ⊛ ‵ (fdead (ν ∷ []))) (W .lfts .dead-dup (ν ∷ [])) $ split ! $
-          move ! (0 ∷ 5 ∷ []) $
-          use2 W (later (‵ (fat fullShare arr-g l₃ 0 (low-g gs)) ⊛ ‵ (Array G.the-row 16 .own gs (low-g gs ∷ [])))) (unshares G.the-row tt (λ z. LL.val G.the-type G′.the-laws z) (LL.tells G.the-type G′.the-laws) 16 (ν ∷ []) l₃ 0 𝓤 H A W gs (length-g gs (has .registries))) $
-          await ! tt $
-          split ! $
-          move ! (1 ∷ []) $
-          drop ! $
-          move ! (1 ∷ 4 ∷ []) $
-          use2 W (later (‵ (fat fullShare arr-w l₄ 0 (low-w ws)) ⊛ ‵ (Array T.the-row 256 .own ws (low-w ws ∷ [])))) (unshares T.the-row tt (λ z. LL.val T.the-type T′.the-laws z) (LL.tells T.the-type T′.the-laws) 256 (ν ∷ []) l₄ 0 𝓤 H A W ws (length-w ws (has .rows))) $
-          await ! tt $
-          split ! $
-          move ! (1 ∷ []) $
-          drop ! $
-          move ! (2 ∷ 3 ∷ []) $
-          leaves r (zs .1 .1 .1 .1 .0) (subst (λ (vs : List Val). Is P.the-row r vs) (LL.tells P.the-type P′.the-laws r _ is-r) is-r) e len-out)))))))))
+          assigns ! (of-opd ! (load ! (from ! (fld ! refl (stop !))) (look-in ! 20 (sub ! 0 refl (whole !))))) (from ! (stop !)) (init ! 16 refl (array-lawful 𝓤 H A W G.the-row (LL.lawful G.the-type G′.the-laws 𝓤 H A W) 16 .typed gs _ (has .registries) .0)) $
+          assigns ! (of-opd ! (load ! (from ! (fld ! refl (stop !))) (look-in ! 20 (sub ! 2 refl (whole !))))) (from ! (stop !)) (init ! 14 refl (array-lawful 𝓤 H A W T.the-row (LL.lawful T.the-type T′.the-laws 𝓤 H A W) 256 .typed ws _ (has .rows) .0)) $
+          assigns ! (addr ! (from ! (stop !))) (from ! (stop !)) (init ! 12 refl (tt, tt)) $
+          assigns ! (agg ! (and-then ! (load ! (from ! (stop !)) (look ! 12 refl)) (and-then ! (lit ! tt) (no-more !)))) (from ! (stop !)) (init ! 10 refl (tt, (tt, (record { fits = lit< tt }, tt)))) $
+          rewrite ! 10 (λ (z : ℕ). ‵ (fat fullShare slice-g l₆ 0 (sliceVal (l₃, 0) z))) (sym (length-g gs (has .registries))) refl $
+          assigns ! (addr ! (from ! (stop !))) (from ! (stop !)) (init ! 8 refl (tt, tt)) $
+          assigns ! (agg ! (and-then ! (load ! (from ! (stop !)) (look ! 8 refl)) (and-then ! (lit ! tt) (no-more !)))) (from ! (stop !)) (init ! 6 refl (tt, (tt, (record { fits = lit< tt }, tt)))) $
+          rewrite ! 6 (λ (z : ℕ). ‵ (fat fullShare slice-w l₈ 0 (sliceVal (l₄, 0) z))) (sym (length-w ws (has .rows))) refl $
+          assigns ! (addr ! (from ! (fld ! refl (hop ! (look-in ! 18 (sub ! 0 refl (whole !))) (stop !))))) (from ! (stop !)) (init ! 4 refl (tt, tt)) $
+          assigns ! (agg ! (and-then ! (load ! (from ! (stop !)) (look ! 4 refl)) (and-then ! (load ! (from ! (fld ! refl (stop !))) (look-in ! 18 (sub ! 1 refl (whole !)))) (no-more !)))) (from ! (stop !)) (init ! 2 refl (tt, (tt, (record { fits = room-out .0 }, tt)))) $
+          lent
 
     walk : ent 𝓤 (onEntry 𝓤 H A me.signature (κ, tt) (q, tt) x at) (WpFn 𝓤 H C Λ code.function (spelled ledger ∷ val-out ∷ []) Post)
     walk =
