@@ -4,12 +4,9 @@
 --     same-registries, same-rows   a state that is stored where it was read changes nothing
 --     leaves                       what is handed back is what the effect in the ledger leaves
 --     answered, stepped            the answer and the ledger are those of the ledger's step
---     refused-keeps                after a refusal both slices and both counts are as before
---     one-changes                  an accepted attempt leaves one of the slices as before
 use Prim.Native.Nat.{ℕ, _+_, _<_, _≤_, min}
 use mathlib.Core.Path.{_≡_, refl, sym, ap, subst, _∙_}
-use mathlib.Core.Bool.{Bool, true, false, cond, true≢false, false≢true}
-use mathlib.Core.Logic.{_⊎_, inl, inr}
+use mathlib.Core.Bool.{Bool, true, false, cond}
 use mathlib.Core.Option.{none, some}
 use mathlib.Core.List.{List, [], _∷_, _++_, map}
 use native.Mathlib.Omega.{arith}
@@ -23,7 +20,6 @@ use Rattle.cesr.specs.declared.primitive.Said.{Said}
 use Rattle.registry_state.specs.States.{noCredential}
 use Rattle.registry_state.specs.declared.state.RegistryState.{RegistryState}
 use Rattle.registry_state.specs.declared.state.CredentialState.{CredentialState}
-use Rattle.registry_error.specs.Answers.{accepts}
 use Rattle.registry_laws.specs.Pairs.{Pair, keyOf}
 use Rattle.ledger_step.specs.Tables.{put, place}
 use Rattle.ledger_step.specs.Ledgers.{Held, Ledger, heldOf, idOf, eqPair, lentLedger, sound}
@@ -184,25 +180,3 @@ module _ (gs : List RegistryState) (m : ℕ) (ws : List CredentialState) (n : �
     pub stepped : lentLedger gs′ (x .«registry_count») ws′ (x .«row_count») ≡ stepOf l s .ledger
     unfolding stepOf
     stepped = change e leaves (effect-fits l (requestOf s))
-
-    -- A refusal leaves both slices and both counts as they were.
-    pub refused-keeps : accepts (x .answer) ≡ false → (gs′ ≡ gs) × (x .«registry_count» ≡ m) × (ws′ ≡ ws) × (x .«row_count» ≡ n)
-    refused-keeps h = go e leaves (sym (ap accepts (answer-of e leaves)) ∙ h)
-      where
-        go : (z : Effect) → Leaves z g m w n x → accepts (answerOf z) ≡ false → (gs′ ≡ gs) × (x .«registry_count» ≡ m) × (ws′ ≡ ws) × (x .«row_count» ≡ n)
-        go (refuse r) p h = (same-registries (registry-as p), count-as p, same-rows (row-as p), rows-as p)
-        go (newRegistry g′) p h = absurd (true≢false h)
-        go (setRegistry id g′) p h = absurd (true≢false h)
-        go (newRow v) p h = absurd (true≢false h)
-        go (setRow k v) p h = absurd (true≢false h)
-
-    -- An accepted attempt changes one of the slices, and leaves the other as it was.
-    pub one-changes : accepts (x .answer) ≡ true → (gs′ ≡ gs) ⊎ (ws′ ≡ ws)
-    one-changes h = go e leaves (sym (ap accepts (answer-of e leaves)) ∙ h)
-      where
-        go : (z : Effect) → Leaves z g m w n x → accepts (answerOf z) ≡ true → (gs′ ≡ gs) ⊎ (ws′ ≡ ws)
-        go (refuse r) p h = absurd (false≢true h)
-        go (newRegistry g′) p h = inr (same-rows (row-as (p .1)))
-        go (setRegistry id g′) p h = inr (same-rows (row-as (p .1)))
-        go (newRow v) p h = inl (same-registries (registry-as p))
-        go (setRow k v) p h = inl (same-registries (registry-as p))
