@@ -8,8 +8,9 @@ use mathlib.Core.List.{List}
 use Rattle.laws.specs.Words.{sameList}
 use Rattle.registry_state.specs.States.{viewRegistry, registryBytes, wellRegistry}
 use Rattle.registry_error.specs.Answers.{accepts}
-use Rattle.registry.specs.declared.registry.RegistryOutcome.{RegistryOutcome}
-use Rattle.registry.specs.RegistryFolds.{Outcome, ingestOf, viewOutcome}
+use Rattle.registry_inception.specs.declared.registry.RegistryOutcome.{RegistryOutcome}
+use Rattle.registry_inception.specs.InceptionFolds.{Outcome, viewOutcome}
+use Rattle.registry.specs.RegistryFolds.{ingestOf}
 use Rattle.folds.specs.declared.part.Finding.{Finding}
 use Rattle.folds.specs.declared.part.RegistryPart.{RegistryPart}
 use Rattle.folds.specs.Reports.{Report, answerReport, sameReport}

@@ -16,6 +16,7 @@ use Rattle.registry_wire.specs.Attempts.{decodeOf}
 use Rattle.registry_error.specs.declared.error.RegistryRejection.the-variants.{Malformed}
 use Rattle.registry_error.specs.declared.error.Answer.the-variants.{Rejected}
 use Rattle.registry_error.specs.Answers.{accepts}
+use Rattle.registry_inception.specs.InceptionFolds as N
 use Rattle.registry.specs.RegistryFolds as G
 use Rattle.registry_credential_state.specs.CredentialFolds as W
 use Rattle.registry_credential.specs.Status.{statusOf}
@@ -51,7 +52,7 @@ wellView g =
     && (isIdentifier (g .issuer) && (isSaid (g .latest .0) && (all isConfig (g .configs) && all isBacker (g .backers))))
 
 -- the folds of such a registry
-unfoldable pub rotateOf : Registry → List ℕ → G.Outcome
+unfoldable pub rotateOf : Registry → List ℕ → N.Outcome
 rotateOf g s = cond (wellView g) (G.ingestDecoded g (decodeOf s)) (record { answer = Rejected Malformed; state = g })
 
 unfoldable pub issueOf : Registry → List ℕ → W.Outcome
@@ -63,7 +64,7 @@ revokeOf g w s =
     cond (wellView g && wellCredential w) (W.ingestDecoded g w (decodeOf s)) (record { answer = Rejected Malformed; state = w })
 
 -- whether an outcome is the expected one: the answer, and behind it the next state or the one that was handed in
-unfoldable pub registryAgrees : List ℕ → List ℕ → List ℕ → G.Outcome → Finding
+unfoldable pub registryAgrees : List ℕ → List ℕ → List ℕ → N.Outcome → Finding
 registryAgrees expected next held o =
     record
     { agrees = sameReport (answerReport (o .answer)) expected && sameList (registryBytes (o .state)) (cond (accepts (o .answer)) next held); read = true }
@@ -79,7 +80,7 @@ unread expected = record { agrees = sameReport (rejectionReport Malformed) expec
 
 -- where no state is handed in, the one behind a refusal is blank
 unfoldable pub judgeIncept : List ℕ → List ℕ → List ℕ → Finding
-judgeIncept expected next attempt = registryAgrees expected next (replicate 121 0) (G.inceptOf attempt)
+judgeIncept expected next attempt = registryAgrees expected next (replicate 121 0) (N.inceptOf attempt)
 
 unfoldable pub judgeRotate : List ℕ → List ℕ → List ℕ → List ℕ → Finding
 judgeRotate expected next held attempt =

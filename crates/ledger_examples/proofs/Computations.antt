@@ -22,6 +22,7 @@ use Rattle.registry_verification.specs.Sequence.{nextSn}
 use Rattle.registry_verification.specs.Updated.{survivors, updatedMembers}
 use Rattle.registry_authentication.specs.Backers.{standsAt, enoughReceipts, backedBy, authenticateBacker}
 use Rattle.registry_authentication.specs.Issuers.{authenticateIssuer}
+use Rattle.registry_inception.specs.InceptionFolds as N
 use Rattle.registry.specs.RegistryFolds as R
 use Rattle.registry_credential_state.specs.CredentialFolds as C
 use Rattle.registry_laws.specs.ReadingRules.{soundRegistry}
@@ -37,7 +38,7 @@ use Rattle.ledger_examples.proofs.HeldRows as H
 use Rattle.ledger_examples.proofs.Cases.{asked, Computed}
 
 pub rotations : Computed oneBacked firstRotation secondRotation (0 ∷ 0 ∷ []) (16 ∷ 0 ∷ [])
-unfolding goodMessage all goodSaid goodIdentifier goodSn goodToad goodPrefixes isMatter isBasic isSaid isIdentifier goodSignature goodSource goodAnchors goodAnchor numbersBy effect sound holds distinct has soundRegistry checkMembers check first breaks hasMember exactOk noBackers hasCode find put eqMatter R.ingestMessage R.vrtAnswer firstOf acceptIf nextSn value snOf authenticateIssuer R.vrtBackers checkDeltas checkCurrent updatedMembers survivors R.thresholdFits enoughReceipts receipts hasGood count
+unfolding goodMessage all goodSaid goodIdentifier goodSn goodToad goodPrefixes isMatter isBasic isSaid isIdentifier goodSignature goodSource goodAnchors goodAnchor numbersBy effect sound holds distinct has soundRegistry checkMembers check first breaks hasMember exactOk noBackers hasCode find put eqMatter R.ingestMessage R.vrtAnswer firstOf acceptIf nextSn value snOf authenticateIssuer R.vrtBackers checkDeltas checkCurrent updatedMembers survivors N.thresholdFits enoughReceipts receipts hasGood count
 rotations = record { good-first = refl; good-second = refl; whole = record { reads = refl; registries = refl; rows = refl }; first = refl; second = refl }
 
 pub pairs : Computed onePlain issued revoked (0 ∷ 0 ∷ []) (5 ∷ 0 ∷ [])
@@ -45,11 +46,11 @@ unfolding goodMessage all goodSaid goodIdentifier goodSn isMatter isBasic isSaid
 pairs = record { good-first = refl; good-second = refl; whole = record { reads = refl; registries = refl; rows = refl }; first = refl; second = refl }
 
 pub inceptions : Computed empty inception issued (0 ∷ 0 ∷ []) (2 ∷ 0 ∷ [])
-unfolding goodMessage all goodSaid goodIdentifier goodSn goodToad goodConfigs goodPrefixes isConfig isMatter isBasic isSaid isIdentifier goodSignature goodSource goodAnchors goodAnchor numbersBy effect sound holds distinct has soundRegistry checkMembers check first exactOk noBackers hasCode find put eqMatter R.inceptMessage R.inceptAnswer R.vcpAnswer R.thresholdFits enoughReceipts receipts count C.inceptMessage C.issAnswer firstOf acceptIf value authenticateIssuer
+unfolding goodMessage all goodSaid goodIdentifier goodSn goodToad goodConfigs goodPrefixes isConfig isMatter isBasic isSaid isIdentifier goodSignature goodSource goodAnchors goodAnchor numbersBy effect sound holds distinct has soundRegistry checkMembers check first exactOk noBackers hasCode find put eqMatter N.inceptMessage N.inceptAnswer N.vcpAnswer N.thresholdFits enoughReceipts receipts count C.inceptMessage C.issAnswer firstOf acceptIf value authenticateIssuer
 inceptions = record { good-first = refl; good-second = refl; whole = record { reads = refl; registries = refl; rows = refl }; first = refl; second = refl }
 
 pub heads : Computed oneBacked issuedByHead firstRotation (0 ∷ 0 ∷ []) (0 ∷ 23 ∷ [])
-unfolding goodMessage all goodSaid goodIdentifier goodSn goodToad goodPrefixes isMatter isBasic isSaid isIdentifier goodSignature goodSource goodAnchors goodAnchor numbersBy effect sound holds distinct has soundRegistry checkMembers check first breaks hasMember exactOk noBackers hasCode find put eqMatter R.ingestMessage R.vrtAnswer firstOf acceptIf nextSn value snOf authenticateIssuer R.vrtBackers checkDeltas checkCurrent updatedMembers survivors R.thresholdFits enoughReceipts receipts hasGood count C.inceptMessage C.bisAnswer authenticateBacker standsAt backedBy wellCredential
+unfolding goodMessage all goodSaid goodIdentifier goodSn goodToad goodPrefixes isMatter isBasic isSaid isIdentifier goodSignature goodSource goodAnchors goodAnchor numbersBy effect sound holds distinct has soundRegistry checkMembers check first breaks hasMember exactOk noBackers hasCode find put eqMatter R.ingestMessage R.vrtAnswer firstOf acceptIf nextSn value snOf authenticateIssuer R.vrtBackers checkDeltas checkCurrent updatedMembers survivors N.thresholdFits enoughReceipts receipts hasGood count C.inceptMessage C.bisAnswer authenticateBacker standsAt backedBy wellCredential
 heads = record { good-first = refl; good-second = refl; whole = record { reads = refl; registries = refl; rows = refl }; first = refl; second = refl }
 
 -- of 255 rows, by the laws of that ledger
@@ -67,9 +68,9 @@ unfolding sound holds all distinct has eqMatter soundRegistry checkMembers check
 met-whole = record { reads = refl; registries = refl; rows = refl }
 
 pub met-one : numbersBy plainAndBacked (asked firstRotation ∷ asked secondRotation ∷ asked issued ∷ asked revoked ∷ asked absent ∷ nothing Malformed ∷ []) ≡ 0 ∷ 0 ∷ 0 ∷ 0 ∷ 5 ∷ 1 ∷ []
-unfolding numbersBy effect sound holds all distinct has soundRegistry checkMembers check first breaks hasMember exactOk noBackers hasCode find put eqMatter isSaid R.ingestMessage R.vrtAnswer firstOf acceptIf nextSn value snOf authenticateIssuer R.vrtBackers checkDeltas checkCurrent updatedMembers survivors R.thresholdFits enoughReceipts receipts hasGood count C.inceptMessage C.issAnswer C.ingestMessage C.ingestAnswer C.revAnswer C.transition wellCredential
+unfolding numbersBy effect sound holds all distinct has soundRegistry checkMembers check first breaks hasMember exactOk noBackers hasCode find put eqMatter isSaid R.ingestMessage R.vrtAnswer firstOf acceptIf nextSn value snOf authenticateIssuer R.vrtBackers checkDeltas checkCurrent updatedMembers survivors N.thresholdFits enoughReceipts receipts hasGood count C.inceptMessage C.issAnswer C.ingestMessage C.ingestAnswer C.revAnswer C.transition wellCredential
 met-one = refl
 
 pub met-other : numbersBy plainAndBacked (nothing Malformed ∷ asked issued ∷ asked firstRotation ∷ asked absent ∷ asked revoked ∷ asked secondRotation ∷ []) ≡ 1 ∷ 0 ∷ 0 ∷ 5 ∷ 0 ∷ 0 ∷ []
-unfolding numbersBy effect sound holds all distinct has soundRegistry checkMembers check first breaks hasMember exactOk noBackers hasCode find put eqMatter isSaid R.ingestMessage R.vrtAnswer firstOf acceptIf nextSn value snOf authenticateIssuer R.vrtBackers checkDeltas checkCurrent updatedMembers survivors R.thresholdFits enoughReceipts receipts hasGood count C.inceptMessage C.issAnswer C.ingestMessage C.ingestAnswer C.revAnswer C.transition wellCredential
+unfolding numbersBy effect sound holds all distinct has soundRegistry checkMembers check first breaks hasMember exactOk noBackers hasCode find put eqMatter isSaid R.ingestMessage R.vrtAnswer firstOf acceptIf nextSn value snOf authenticateIssuer R.vrtBackers checkDeltas checkCurrent updatedMembers survivors N.thresholdFits enoughReceipts receipts hasGood count C.inceptMessage C.issAnswer C.ingestMessage C.ingestAnswer C.revAnswer C.transition wellCredential
 met-other = refl

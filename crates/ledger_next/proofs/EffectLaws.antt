@@ -21,6 +21,7 @@ use Rattle.registry_error.specs.Answers.{acceptIf, firstOf}
 use Rattle.registry_error.specs.declared.error.Answer.{Answer}
 use Rattle.registry_error.specs.declared.error.Answer.the-variants.{Accepted, Rejected}
 use Rattle.registry_error.specs.declared.error.RegistryRejection.the-variants.{Malformed, NoRoom}
+use Rattle.registry_inception.specs.InceptionFolds as N
 use Rattle.registry.specs.RegistryFolds as R
 use Rattle.registry_credential_state.specs.CredentialFolds as C
 use Rattle.registry_laws.specs.Pairs.{Pair, pairIn, keyOf}
@@ -66,9 +67,9 @@ request-from s = go (decodeOf s) refl
 
 -- ---- the folds, of a message that was read and of states that keep to their layouts
 module _ (s : List ℕ) (m : Message) (e : decodeOf s ≡ decoded m) where
-  inception-read : R.inceptOf s ≡ R.inceptMessage m
-  unfolding R.inceptOf
-  inception-read = ap R.inceptDecoded e
+  inception-read : N.inceptOf s ≡ N.inceptMessage m
+  unfolding N.inceptOf
+  inception-read = ap N.inceptDecoded e
 
   rotation-read : (g : RegistryState) → wellRegistry g ≡ true → R.ingestOf g s ≡ R.ingestMessage (viewRegistry g) m
   unfolding R.ingestOf
@@ -108,7 +109,7 @@ module _ (s : List ℕ) (g : RegistryState) (w : CredentialState) where
   inception-is : (m : Message) (n : ℕ) → decodeOf s ≡ decoded m → (t : Bool) → inceptionNamed s t n ≡ inceptionEffect m n (cond t (some (heldOf g)) none)
   unfolding inceptionAnswer firstOf acceptIf
   inception-is m n e true = refl
-  inception-is m n e false = rw (inception-read s m e) (then-room (R.inceptMessage m .answer) (ltb n 16) (newRegistry (R.inceptMessage m .state)))
+  inception-is m n e false = rw (inception-read s m e) (then-room (N.inceptMessage m .answer) (ltb n 16) (newRegistry (N.inceptMessage m .state)))
 
   -- a vrt
   rotation-is : (id : Said) (m : Message) → decodeOf s ≡ decoded m → (t : Bool) → (t ≡ true → wellRegistry g ≡ true) → rotationNamed s id t g ≡ rotationEffect id m (cond t (some (heldOf g)) none)

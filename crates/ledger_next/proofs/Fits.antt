@@ -13,6 +13,7 @@ use Rattle.registry_wire.specs.Attempts.{Message}
 use Rattle.registry_error.specs.declared.error.Answer.{Answer}
 use Rattle.registry_error.specs.declared.error.Answer.the-variants.{Accepted, Rejected}
 use Rattle.registry_error.specs.declared.error.RegistryRejection.the-variants.{Malformed, NoRoom}
+use Rattle.registry_inception.specs.InceptionFolds as N
 use Rattle.registry.specs.RegistryFolds as R
 use Rattle.registry_credential_state.specs.CredentialFolds as C
 use Rattle.registry_laws.specs.Pairs.{Pair}
@@ -50,8 +51,8 @@ module _ (l : Ledger) (k : Keeps l) where
   inception-fits id m none e =
       let q = namedOf (inception id m) in
       let size = eqb-true (l .registrySlots) 16 (k .registry-slots) in
-      after-fits l q (R.inceptMessage m .answer) (withRoom (l .registryCount) 16 (newRegistry (R.inceptMessage m .state)))
-      (room-fits l q (l .registryCount) 16 (newRegistry (R.inceptMessage m .state)) (λ h. (e, omega (arith, h, size))))
+      after-fits l q (N.inceptMessage m .answer) (withRoom (l .registryCount) 16 (newRegistry (N.inceptMessage m .state)))
+      (room-fits l q (l .registryCount) 16 (newRegistry (N.inceptMessage m .state)) (λ h. (e, omega (arith, h, size))))
 
   rotation-fits : (id : Said) (m : Message) (o : Option Held) → Fits l (namedOf (rotation id m)) (rotationEffect id m o)
   rotation-fits id m none = tt

@@ -17,8 +17,9 @@ use Rattle.registry_error.specs.declared.error.Answer.{Answer}
 use Rattle.registry_error.specs.declared.error.Answer.the-variants.{Accepted, Rejected}
 use Rattle.registry_error.specs.declared.error.RegistryRejection.the-variants.{NoRoom}
 use Rattle.registry_error.proofs.AnswerLaws.{passed}
+use Rattle.registry_inception.specs.InceptionFolds as N
 use Rattle.registry.specs.RegistryFolds as R
-use Rattle.registry.specs.declared.registry.RegistryOutcome.{RegistryOutcome}
+use Rattle.registry_inception.specs.declared.registry.RegistryOutcome.{RegistryOutcome}
 use Rattle.registry_credential_state.specs.CredentialFolds as C
 use Rattle.registry_credential_state.specs.declared.credential_state.CredentialOutcome.{CredentialOutcome}
 use Rattle.registry_laws.specs.Pairs.{Pair}
@@ -65,19 +66,19 @@ module _ (g : RegistryState) (m : ℕ) (w : CredentialState) (n : ℕ) where
   leaves-change (Rejected r) e x h l = absurd (false≢true h)
 
   module _ (s : List ℕ) (held : Bool) (a : Answer) (h : accepts a ≡ true) where
-    pub new-registry : (o : RegistryOutcome) → R.viewOutcome o ≡ R.inceptOf s → (accepts (o .answer) ≡ true → wellRegistry (o .state) ≡ true) → a ≡ inceptionAnswer held (o .answer) m → Leaves (inceptionNamed s held m) g m w n (record { answer = a; registry = o .state; «registry_count» = m + 1; row = w; «row_count» = n })
+    pub new-registry : (o : RegistryOutcome) → N.viewOutcome o ≡ N.inceptOf s → (accepts (o .answer) ≡ true → wellRegistry (o .state) ≡ true) → a ≡ inceptionAnswer held (o .answer) m → Leaves (inceptionNamed s held m) g m w n (record { answer = a; registry = o .state; «registry_count» = m + 1; row = w; «row_count» = n })
     new-registry o v within e =
-        let q : a ≡ inceptionAnswer held (R.inceptOf s .answer) m = e ∙ ap (λ (x : R.Outcome). inceptionAnswer held (x .answer) m) v in
+        let q : a ≡ inceptionAnswer held (N.inceptOf s .answer) m = e ∙ ap (λ (x : N.Outcome). inceptionAnswer held (x .answer) m) v in
         let ok = inception-accepts held (o .answer) m (ap accepts (sym e) ∙ h) .0 in
-        leaves-change (inceptionAnswer held (R.inceptOf s .answer) m) (newRegistry (R.inceptOf s .state)) _ (ap accepts (sym q) ∙ h)
-        (held-now (o .state) (R.inceptOf s .state) (ap (λ (x : R.Outcome). x .state) v) (within ok), ap (λ (z : Answer). record { answer = z; registry = o .state; «registry_count» = m + 1; row = w; «row_count» = n }) (accepted a h))
+        leaves-change (inceptionAnswer held (N.inceptOf s .answer) m) (newRegistry (N.inceptOf s .state)) _ (ap accepts (sym q) ∙ h)
+        (held-now (o .state) (N.inceptOf s .state) (ap (λ (x : N.Outcome). x .state) v) (within ok), ap (λ (z : Answer). record { answer = z; registry = o .state; «registry_count» = m + 1; row = w; «row_count» = n }) (accepted a h))
 
-    pub next-registry : (id : Said) (o : RegistryOutcome) → R.viewOutcome o ≡ R.ingestOf g s → (accepts (o .answer) ≡ true → wellRegistry (o .state) ≡ true) → a ≡ rotationAnswer held (o .answer) → Leaves (rotationNamed s id held g) g m w n (record { answer = a; registry = o .state; «registry_count» = m; row = w; «row_count» = n })
+    pub next-registry : (id : Said) (o : RegistryOutcome) → N.viewOutcome o ≡ R.ingestOf g s → (accepts (o .answer) ≡ true → wellRegistry (o .state) ≡ true) → a ≡ rotationAnswer held (o .answer) → Leaves (rotationNamed s id held g) g m w n (record { answer = a; registry = o .state; «registry_count» = m; row = w; «row_count» = n })
     next-registry id o v within e =
-        let q : a ≡ rotationAnswer held (R.ingestOf g s .answer) = e ∙ ap (λ (x : R.Outcome). rotationAnswer held (x .answer)) v in
+        let q : a ≡ rotationAnswer held (R.ingestOf g s .answer) = e ∙ ap (λ (x : N.Outcome). rotationAnswer held (x .answer)) v in
         let ok = rotation-accepts held (o .answer) (ap accepts (sym e) ∙ h) in
         leaves-change (rotationAnswer held (R.ingestOf g s .answer)) (setRegistry id (R.ingestOf g s .state)) _ (ap accepts (sym q) ∙ h)
-        (held-now (o .state) (R.ingestOf g s .state) (ap (λ (x : R.Outcome). x .state) v) (within ok), ap (λ (z : Answer). record { answer = z; registry = o .state; «registry_count» = m; row = w; «row_count» = n }) (accepted a h))
+        (held-now (o .state) (R.ingestOf g s .state) (ap (λ (x : N.Outcome). x .state) v) (within ok), ap (λ (z : Answer). record { answer = z; registry = o .state; «registry_count» = m; row = w; «row_count» = n }) (accepted a h))
 
     pub new-row : (listed : Bool) (o : CredentialOutcome) → C.viewOutcome o ≡ C.inceptOf g s → a ≡ issueAnswer held listed (o .answer) n → Leaves (issueNamed s held g listed n) g m w n (record { answer = a; registry = g; «registry_count» = m; row = o .state; «row_count» = n + 1 })
     new-row listed o v e =

@@ -9,6 +9,7 @@ use Rattle.registry_state.specs.declared.state.RegistryState.{RegistryState}
 use Rattle.registry_state.specs.declared.state.CredentialState.{CredentialState}
 use Rattle.registry_error.specs.declared.error.Answer.{Answer}
 use Rattle.registry_error.specs.declared.error.Answer.the-variants.{Accepted, Rejected}
+use Rattle.registry_inception.specs.InceptionFolds as N
 use Rattle.registry.specs.RegistryFolds as R
 use Rattle.registry_credential_state.specs.CredentialFolds as C
 use Rattle.registry_laws.specs.Pairs.{Pair}
@@ -21,7 +22,7 @@ use Rattle.ledger_next.specs.declared.call.Next.{Next}
 
 -- the four folds, each behind what is checked before it
 abbrev pub inceptionNamed : List ℕ → Bool → ℕ → Effect
-inceptionNamed s held m = afterFold (inceptionAnswer held (R.inceptOf s .answer) m) (newRegistry (R.inceptOf s .state))
+inceptionNamed s held m = afterFold (inceptionAnswer held (N.inceptOf s .answer) m) (newRegistry (N.inceptOf s .state))
 
 abbrev pub rotationNamed : List ℕ → Said → Bool → RegistryState → Effect
 rotationNamed s id held g = afterFold (rotationAnswer held (R.ingestOf g s .answer)) (setRegistry id (R.ingestOf g s .state))

@@ -24,6 +24,7 @@ use Rattle.registry_error.specs.Answers.{accepts}
 use Rattle.registry_error.specs.declared.error.Answer.{Answer}
 use Rattle.registry_error.specs.declared.error.Answer.the-variants.{Accepted, Rejected}
 use Rattle.registry_error.specs.declared.error.RegistryRejection.the-variants.{NoRoom}
+use Rattle.registry_inception.specs.InceptionFolds as N
 use Rattle.registry.specs.RegistryFolds as R
 use Rattle.registry_credential_state.specs.CredentialFolds as C
 use Rattle.registry_credential_state.specs.CredentialFolds.{saidOf}
@@ -128,10 +129,10 @@ room-legal s q n limit e h = go (ltb n limit) refl
 inception-legal : (s : Ledger) (id : Said) (m : Message) → Read (inception id m) → (o : Option Held) → registryAt s id ≡ o → Legal s (inception id m) (inceptionEffect m (s .registryCount) o)
 inception-legal s id m r (some g) e = tt
 inception-legal s id m r none e =
-    after-legal s (inception id m) (R.inceptMessage m .answer) (withRoom (s .registryCount) 16 (newRegistry (R.inceptMessage m .state)))
-    (λ h. room-legal s (inception id m) (s .registryCount) 16 (newRegistry (R.inceptMessage m .state))
+    after-legal s (inception id m) (N.inceptMessage m .answer) (withRoom (s .registryCount) 16 (newRegistry (N.inceptMessage m .state)))
+    (λ h. room-legal s (inception id m) (s .registryCount) 16 (newRegistry (N.inceptMessage m .state))
     (λ room.
-    let same : R.inceptMessage m .state .id ≡ id = inception-id m h ∙ r in
+    let same : N.inceptMessage m .state .id ≡ id = inception-id m h ∙ r in
     record
     { message = m; asked = ap (λ (z : Said). inception z m) (sym same); absent = ap (registryAt s) same ∙ e; ruled = inception-sound m h; room = room }))
 

@@ -18,7 +18,7 @@ use Rattle.registry_error.specs.Answers.{accepts, acceptIf}
 use Rattle.registry_error.specs.declared.error.RegistryRejection.the-variants.{InconsistentRegistry}
 use Rattle.registry_error.proofs.AnswerLaws.{or-second, passed}
 use Rattle.registry_authentication.specs.Issuers.{issuerKind}
-use Rattle.registry.specs.RegistryFolds as R
+use Rattle.registry_inception.specs.InceptionFolds as N
 use Rattle.registry_credential_state.specs.CredentialFolds as C
 use Rattle.registry_credential_state.specs.CredentialFolds.{saidOf}
 use Rattle.registry_laws.proofs.Chains.{all-accept}
@@ -26,7 +26,7 @@ use Rattle.registry_laws.proofs.Issues.{issue-names}
 use Rattle.ledger_step.specs.Ledgers.{zeroOrOne}
 use Rattle.ledger_step.proofs.ReadLetters.{Lettered}
 
-event-id : (e : Event) (m : Message) → accepts (R.inceptEvent e m) ≡ true → R.incepted e .id ≡ saidOf e
+event-id : (e : Event) (m : Message) → accepts (N.inceptEvent e m) ≡ true → N.incepted e .id ≡ saidOf e
 event-id (vcp said issuer toad configs backers) m h = refl
 event-id (vrt said registry prior sn toad cuts additions) m h = absurd (false≢true h)
 event-id (iss said credential registry) m h = absurd (false≢true h)
@@ -34,9 +34,9 @@ event-id (rev said credential registry prior) m h = absurd (false≢true h)
 event-id (bis said credential registry seal) m h = absurd (false≢true h)
 event-id (brv said credential prior seal) m h = absurd (false≢true h)
 
-pub inception-id : (m : Message) → accepts (R.inceptMessage m .answer) ≡ true → R.inceptMessage m .state .id ≡ saidOf (m .event)
-unfolding R.inceptMessage R.inceptAnswer
-inception-id m h = rw h (event-id (m .event) m (or-second (issuerKind (m .evidence)) (R.inceptEvent (m .event) m) h))
+pub inception-id : (m : Message) → accepts (N.inceptMessage m .answer) ≡ true → N.inceptMessage m .state .id ≡ saidOf (m .event)
+unfolding N.inceptMessage N.inceptAnswer
+inception-id m h = rw h (event-id (m .event) m (or-second (issuerKind (m .evidence)) (N.inceptEvent (m .event) m) h))
 
 -- the state of an issue has the letters of its event, where the event names the registry
 issued-well : (id said credential registry : Said) → Lettered (iss said credential registry) → accepts (acceptIf (eqSaid registry id) InconsistentRegistry) ≡ true → wellCredential (C.issued id (iss said credential registry)) ≡ true

@@ -16,6 +16,7 @@ use Rattle.registry_error.specs.declared.error.Answer.{Answer}
 use Rattle.registry_error.specs.declared.error.Answer.the-variants.{Accepted, Rejected}
 use Rattle.registry_error.specs.declared.error.RegistryRejection.{RegistryRejection}
 use Rattle.registry_error.specs.declared.error.RegistryRejection.the-variants.{Malformed, MissingRegistry, DuplicateInception, AlreadyIssued, MissingCredentialState, InconsistentRegistry, NoRoom}
+use Rattle.registry_inception.specs.InceptionFolds as N
 use Rattle.registry.specs.RegistryFolds as R
 use Rattle.registry_credential_state.specs.CredentialFolds as C
 use Rattle.registry_laws.specs.Pairs.{Pair, pairIn, keyOf}
@@ -71,7 +72,7 @@ withRoom held limit e = cond (ltb held limit) e (refuse NoRoom)
 
 -- vcp: 3, the fold, 29; the number is how many registries are held
 abbrev pub inceptionEffect : Message → ℕ → Option Held → Effect
-inceptionEffect m n none = afterFold (R.inceptMessage m .answer) (withRoom n 16 (newRegistry (R.inceptMessage m .state)))
+inceptionEffect m n none = afterFold (N.inceptMessage m .answer) (withRoom n 16 (newRegistry (N.inceptMessage m .state)))
 inceptionEffect m n (some g) = refuse DuplicateInception
 
 -- vrt: 2, the fold

@@ -1,29 +1,24 @@
--- The folds of a registry over decoded attempts.
---     incept-kind, vrt-lists      what an accepted attempt was, and which of its checks passed
---     limit-chain, limit-list     the members after a rotation, or, where they are too many, the refusal alone
---     incept-lettered, ingest-lettered   an accepted attempt leaves a state with the letters and bytes of its places
+-- The rotations of a registry over decoded attempts.
+--     vrt-lists                  which checks of an accepted attempt passed
+--     limit-chain, limit-list    the members after a rotation, or, where they are too many, the refusal alone
+--     ingest-lettered            an accepted attempt leaves a state with the letters and bytes of its places
 use Prim.Native.Nat.{ℕ, _≤_}
 use mathlib.Core.Path.{_≡_, refl, sym, _∙_}
 use mathlib.Core.List.{List}
 use mathlib.Core.Bool.{Bool, true, false, not, cond, _&&_, false≢true}
-use lib.Dec.{leb}
 use lib.ListN.{length}
-use Rattle.laws.proofs.Tests.{and-left}
 use Rattle.cesr.specs.Primitives.{eqSaid}
 use Rattle.cesr.specs.declared.number.Sn.{Sn}
 use Rattle.cesr.specs.declared.primitive.Said.{Said}
 use Rattle.cesr.specs.declared.primitive.BasicPrefix.{BasicPrefix}
 use Rattle.events_tel.specs.Configs.{noBackers}
-use Rattle.events_tel.specs.TelEvents.{Event, eventAs}
+use Rattle.events_tel.specs.TelEvents.{Event}
 use Rattle.events_tel.specs.TelEvents.Event.{vcp, vrt, iss, rev, bis, brv}
-use Rattle.events_tel.specs.declared.tel.Kind.{Kind}
-use Rattle.events_tel.specs.declared.tel.Kind.the-variants.{Vcp, Vrt, Iss, Rev, Bis, Brv}
-use Rattle.events_tel.specs.declared.tel.TelEvent.{TelEvent}
-use Rattle.codec.specs.Layout.{all, goodEvent}
-use Rattle.registry_state.specs.States.{Registry, viewRegistry, wellRegistry, noRegistry}
+use Rattle.codec.specs.Layout.{goodEvent}
+use Rattle.registry_state.specs.States.{Registry, viewRegistry, wellRegistry}
 use Rattle.registry_state.specs.declared.state.RegistryState.{RegistryState}
-use Rattle.registry_wire.specs.Attempts.{Message, goodSource, goodAnchors, goodEvidence, goodMessage, viewAttempt, viewDecoded, decodeOf}
-use Rattle.registry_seals.specs.SignatureSections.{Signature, goodSignature}
+use Rattle.registry_wire.specs.Attempts.{Message, goodMessage, viewAttempt, viewDecoded, decodeOf}
+use Rattle.registry_seals.specs.SignatureSections.{Signature}
 use Rattle.registry_wire.specs.declared.attempt.Attempt.{Attempt}
 use Rattle.registry_wire.specs.declared.attempt.DecodedAttempt.{DecodedAttempt}
 use Rattle.registry_error.specs.Answers.{accepts, acceptIf, orElse, firstOf}
@@ -32,65 +27,17 @@ use Rattle.registry_error.specs.declared.error.Answer.the-variants.{Accepted, R
 use Rattle.registry_error.specs.declared.error.RegistryRejection.{RegistryRejection}
 use Rattle.registry_error.specs.declared.error.RegistryRejection.the-variants.{Malformed, TooManyBackers, InconsistentRegistry, RotationOnBackerlessRegistry, PriorDigestMismatch}
 use Rattle.registry_authentication.proofs.AnchorUse.{judged-decoded, judged-malformed}
-use Rattle.registry_authentication.specs.Issuers.{issuerKind, authenticateIssuer}
+use Rattle.registry_authentication.specs.Issuers.{authenticateIssuer}
 use Rattle.registry_authentication.specs.Backers.{enoughReceipts}
-use Rattle.registry.specs.RegistryFolds.{thresholdFits, inceptEvent, inceptAnswer, incepted, inceptMessage, inceptOf, vrtBackers, vrtAnswer, ingestEvent, rotated, ingestMessage, ingestDecoded, ingestOf, Ingested}
+use Rattle.registry_inception.specs.InceptionFolds.{thresholdFits}
+use Rattle.registry.specs.RegistryFolds.{vrtBackers, vrtAnswer, ingestEvent, rotated, ingestMessage, ingestDecoded, ingestOf, Ingested}
 use Rattle.registry_verification.specs.Sequence.{nextSn}
-use Rattle.registry.specs.declared.registry.RegistryOutcome.{RegistryOutcome}
+use Rattle.registry_inception.specs.declared.registry.RegistryOutcome.{RegistryOutcome}
 use Rattle.registry_error.proofs.AnswerLaws.{or-first, or-second, passed}
-use Rattle.registry.proofs.WellLaws.{Lettered, good-incepted, good-rotated}
+use Rattle.registry_inception.proofs.WellLaws.{Lettered}
+use Rattle.registry.proofs.WellLaws.{good-rotated}
+use Rattle.registry_inception.proofs.InceptionLaws.{good-event}
 
-pub good-event : (m : Message) → goodMessage m ≡ true → goodEvent (m .event) ≡ true
-unfolding goodMessage
-good-event m g =
-    and-left (goodEvent (m .event)) ((leb (length (m .source)) 1 && all goodSource (m .source)) && (goodAnchors (m .anchor) && ((leb (length (m .signatures)) 64 && all goodSignature (m .signatures)) && goodEvidence (m .evidence)))) g
-
--- inceptions
-incept-kind-by : (k : Kind) (e : TelEvent) (m : Message) → accepts (inceptEvent (eventAs k e) m) ≡ true → k ≡ Vcp
-incept-kind-by Vcp e m h = refl
-incept-kind-by Vrt e m h = absurd (false≢true h)
-incept-kind-by Iss e m h = absurd (false≢true h)
-incept-kind-by Rev e m h = absurd (false≢true h)
-incept-kind-by Bis e m h = absurd (false≢true h)
-incept-kind-by Brv e m h = absurd (false≢true h)
-
-pub incept-kind : (s : List ℕ) (a : Attempt) → accepts (inceptAnswer (viewAttempt s a)) ≡ true → a .event .kind ≡ Vcp
-unfolding inceptAnswer
-incept-kind s a h =
-    let m = viewAttempt s a in
-    incept-kind-by (a .event .kind) (a .event) m (or-second (issuerKind (m .evidence)) (inceptEvent (m .event) m) h)
-
-pub incept-accepted : (m : Message) (x : Answer) (g : Registry) → x ≡ inceptAnswer m → accepts x ≡ true → g ≡ incepted (m .event) → record { answer = x; state = g } ≡ inceptMessage m
-unfolding inceptMessage
-incept-accepted m x g e h f = rw (f, ← e, h)
-
-pub incept-refused : (m : Message) (x : Answer) (g : Registry) → x ≡ inceptAnswer m → accepts x ≡ false → g ≡ noRegistry → record { answer = x; state = g } ≡ inceptMessage m
-unfolding inceptMessage
-incept-refused m x g e h f = rw (f, ← e, h)
-
-incept-lettered-by : (e : Event) (m : Message) → goodEvent e ≡ true → accepts (inceptEvent e m) ≡ true → Lettered (incepted e)
-incept-lettered-by (vcp said issuer toad configs backers) m g h = good-incepted said issuer toad configs backers g
-incept-lettered-by (vrt said registry prior sn toad cuts additions) m g h = absurd (false≢true h)
-incept-lettered-by (iss said credential registry) m g h = absurd (false≢true h)
-incept-lettered-by (rev said credential registry prior) m g h = absurd (false≢true h)
-incept-lettered-by (bis said credential registry seal) m g h = absurd (false≢true h)
-incept-lettered-by (brv said credential prior seal) m g h = absurd (false≢true h)
-
-pub incept-lettered : (m : Message) → goodMessage m ≡ true → accepts (inceptMessage m .answer) ≡ true → Lettered (inceptMessage m .state)
-unfolding inceptMessage inceptAnswer
-incept-lettered m g h =
-    let l = incept-lettered-by (m .event) m (good-event m g) (or-second (issuerKind (m .evidence)) (inceptEvent (m .event) m) h) in
-    rw h l
-
-pub incept-decoded : (s : List ℕ) (d : DecodedAttempt) → viewDecoded s d ≡ decodeOf s → d .ok ≡ true → inceptOf s ≡ inceptMessage (viewAttempt s (d .attempt))
-unfolding inceptOf
-incept-decoded s d e ok = rw (← e, ok)
-
-pub incept-malformed : (s : List ℕ) (d : DecodedAttempt) → viewDecoded s d ≡ decodeOf s → d .ok ≡ false → inceptOf s ≡ record { answer = Rejected Malformed; state = noRegistry }
-unfolding inceptOf
-incept-malformed s d e ok = rw (← e, ok)
-
--- rotations
 pub limit-chain : (ok : Bool) (toad : ℕ) (u v now : List BasicPrefix) (l : List Signature) → v ≡ cond ok u now → orElse (acceptIf ok TooManyBackers) (orElse (thresholdFits toad v) (orElse (enoughReceipts toad (length v) l) Accepted)) ≡ orElse (acceptIf ok TooManyBackers) (orElse (thresholdFits toad u) (orElse (enoughReceipts toad (length u) l) Accepted))
 unfolding acceptIf
 limit-chain true toad u v now l e = rw e

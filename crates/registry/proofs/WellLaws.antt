@@ -1,44 +1,27 @@
--- The states that registry folds leave are within the limits.
---     well-by-view      counts within their limits, and a view with the letters and bytes of its places
+-- The states that rotations leave are within the limits.
 --     well-view         what a state within the limits says of its view
---     good-incepted     an inception's state has these letters and bytes
---     good-rotated      a rotation's state has them where the state before it had
-use Prim.Native.Nat.{ℕ, _≤_}
+--     good-rotated      a rotation's state has the letters and bytes of its places where the state before it had
+use Prim.Native.Nat.{ℕ}
 use mathlib.Core.Path.{_≡_, refl}
 use mathlib.Core.List.{List, [], _∷_, _++_}
 use mathlib.Core.Bool.{Bool, true, false, cond, _&&_}
-use borrow.Author.Tests.{le-leb}
 use lib.Dec.{leb}
-use lib.ListN.{length}
 use Rattle.laws.proofs.Tests.{and-left, and-right}
-use Rattle.cesr.specs.Primitives.{isBasic, isSaid}
-use Rattle.cesr.specs.declared.primitive.Matter.{Matter}
+use Rattle.cesr.specs.Primitives.{isSaid}
 use Rattle.cesr.specs.declared.primitive.Said.{Said}
 use Rattle.cesr.specs.declared.primitive.BasicPrefix.{BasicPrefix}
 use Rattle.cesr.specs.declared.number.Sn.{Sn}
 use Rattle.events_tel.specs.Configs.{viewConfigs}
 use Rattle.events.specs.Members.{view, has}
-use Rattle.events_tel.specs.TelEvents.Event.{vcp, vrt}
+use Rattle.events_tel.specs.TelEvents.Event.{vrt}
 use Rattle.codec_cursor.specs.Readers.{isIdentifier}
 use Rattle.codec.specs.Events.{isConfig}
-use Rattle.codec.specs.Layout.{all, isMatter, goodSaid, goodPrefix, goodIdentifier, goodToad, goodSn, goodConfigs, goodPrefixes, goodEvent}
+use Rattle.codec.specs.Layout.{all, goodSaid, goodToad, goodSn, goodPrefixes, goodEvent}
 use Rattle.registry_state.specs.States.{Registry, viewRegistry, isBacker, wellRegistry}
 use Rattle.registry_state.specs.declared.state.RegistryState.{RegistryState}
 use Rattle.registry_verification.specs.Updated.{survivors, updatedMembers}
-use Rattle.registry.specs.RegistryFolds.{incepted, rotated}
-
--- the letters and config bytes of a registry
-pub record Lettered (g : Registry) : Type 0 where
-  pub id : isSaid (g .id .0) ≡ true
-  pub issuer : isIdentifier (g .issuer) ≡ true
-  pub latest : isSaid (g .latest .0) ≡ true
-  pub configs : all isConfig (g .configs) ≡ true
-  pub backers : all isBacker (g .backers) ≡ true
-
-pub well-by-view : (x : RegistryState) → x .configs .count ≤ 8 → x .backers .count ≤ 16 → Lettered (viewRegistry x) → wellRegistry x ≡ true
-unfolding wellRegistry
-well-by-view x h k l =
-    rw (le-leb (x .configs .count) 8 h, le-leb (x .backers .count) 16 k, l .id, l .issuer, l .latest, l .configs, l .backers)
+use Rattle.registry.specs.RegistryFolds.{rotated}
+use Rattle.registry_inception.proofs.WellLaws.{Lettered, good-letter, good-backers}
 
 pub well-view : (x : RegistryState) → wellRegistry x ≡ true → (leb (x .configs .count) 8 ≡ true) × Lettered (viewRegistry x)
 unfolding wellRegistry
@@ -56,38 +39,6 @@ well-view x h =
       record
           { id = and-left (isSaid (x .id .0)) named h2; issuer = and-left (isIdentifier (x .issuer)) late h3; latest = and-left (isSaid (x .latest .0)) lists h4; configs = and-left (all isConfig (viewConfigs (x .configs))) (all isBacker (view (x .backers))) h5; backers = and-right (all isConfig (viewConfigs (x .configs))) (all isBacker (view (x .backers))) h5 },
     )
-
-good-letter : (d : Said) → goodSaid d ≡ true → isSaid (d .0) ≡ true
-unfolding goodSaid
-good-letter d h = and-left (isSaid (d .0)) (isMatter (d .0)) h
-
-good-name : (m : Matter) → goodIdentifier m ≡ true → isIdentifier m ≡ true
-unfolding goodIdentifier
-good-name m h = and-left (isIdentifier m) (isMatter m) h
-
-all-backers : (l : List BasicPrefix) → all goodPrefix l ≡ true → all isBacker l ≡ true
-unfolding all goodPrefix
-all-backers [] h = refl
-all-backers (p ∷ l) h =
-    let g = isBasic (p .0) && isMatter (p .0) in
-    rw (and-left (isBasic (p .0)) (isMatter (p .0)) (and-left g (all goodPrefix l) h), all-backers l (and-right g (all goodPrefix l) h))
-
-good-backers : (l : List BasicPrefix) → goodPrefixes l ≡ true → all isBacker l ≡ true
-unfolding goodPrefixes
-good-backers l h = all-backers l (and-right (leb (length l) 16) (all goodPrefix l) h)
-
-good-bytes : (l : List ℕ) → goodConfigs l ≡ true → all isConfig l ≡ true
-unfolding goodConfigs
-good-bytes l h = and-right (leb (length l) 8) (all isConfig l) h
-
-pub good-incepted : (said : Said) (issuer : Matter) (toad : ℕ) (configs : List ℕ) (backers : List BasicPrefix) → goodEvent (vcp said issuer toad configs backers) ≡ true → Lettered (incepted (vcp said issuer toad configs backers))
-good-incepted said issuer toad configs backers g =
-    let lists = goodConfigs configs && goodPrefixes backers in
-    let g1 = and-right (goodSaid said) (goodIdentifier issuer && (goodToad toad && lists)) g in
-    let g2 = and-right (goodToad toad) lists (and-right (goodIdentifier issuer) (goodToad toad && lists) g1) in
-    let letter = good-letter said (and-left (goodSaid said) (goodIdentifier issuer && (goodToad toad && lists)) g) in
-    record
-    { id = letter; issuer = good-name issuer (and-left (goodIdentifier issuer) (goodToad toad && lists) g1); latest = letter; configs = good-bytes configs (and-left (goodConfigs configs) (goodPrefixes backers) g2); backers = good-backers backers (and-right (goodConfigs configs) (goodPrefixes backers) g2) }
 
 all-joined : (l k : List BasicPrefix) → all isBacker l ≡ true → all isBacker k ≡ true → all isBacker (l ++ k) ≡ true
 unfolding all

@@ -1,22 +1,18 @@
-// The folds of a registry: its inception and its rotations (docs/RULES.md, "Orders", "Next states").
-use cesr::number::Sn;
+// The rotations of a registry (docs/RULES.md, "Orders", "Next states").
 use events::member_set::MemberSet;
 use events::member_set::Members;
-use events::toad::Toad;
 use events_tel::tel::Kind;
-use events_tel::tel::TelEvent;
 use registry_authentication::backer::enough_receipts;
 use registry_authentication::backer::is_backerless;
 use registry_authentication::issuer::authenticate_issuer;
-use registry_authentication::issuer::issuer_kind;
-use registry_authentication::issuer::message_anchored;
-use registry_authentication::issuer::names_issuer;
 use registry_error::answer::accept_if;
 use registry_error::answer::accepts;
 use registry_error::answer::backer_set;
 use registry_error::answer::or_else;
 use registry_error::error::Answer;
 use registry_error::error::RegistryRejection;
+use registry_inception::registry::RegistryOutcome;
+use registry_inception::registry::threshold_fits;
 use registry_state::state::RegistryState;
 use registry_verification::sequence::next_sn;
 use registry_verification::state::updated_members;
@@ -24,10 +20,8 @@ use registry_wire::attempt::Attempt;
 ghost use Prim.Native.Nat.{_≤_};
 ghost use mathlib.Core.Path.{_≡_};
 ghost use mathlib.Core.Bool.{true, false, cond};
-ghost use Rattle.events_tel.specs.Configs.{viewConfigs};
 ghost use Rattle.events.specs.Members.{view};
-ghost use Rattle.events_tel.specs.TelEvents.{viewEvent};
-ghost use Rattle.events_tel.specs.declared.tel.Kind.the-variants.{Vcp, Vrt};
+ghost use Rattle.events_tel.specs.declared.tel.Kind.the-variants.{Vrt};
 ghost use Rattle.registry_state.specs.States.{viewRegistry, wellRegistry};
 ghost use Rattle.registry_wire.specs.Attempts.{viewAttempt};
 ghost use Rattle.registry_seals.specs.SignatureSections.{signaturesIn};
@@ -35,114 +29,8 @@ ghost use Rattle.registry_error.specs.declared.error.Answer.the-variants.{Rejec
 ghost use Rattle.registry_error.specs.Answers.{accepts};
 ghost use Rattle.registry_verification.specs.Updated.{updatedMembers};
 ghost use Rattle.registry_authentication.specs.Issuers.{Anchored};
-ghost use Rattle.registry.specs.RegistryFolds.{Ingested, thresholdFits, vcpAnswer, inceptEvent, inceptMessage, incepted, inceptOf, vrtBackers, vrtAnswer, ingestOf, viewOutcome};
-
-// An answer, and the state behind it: the next one, or after a refusal the one that was handed in. Where none is handed in it is blank.
-pub struct RegistryOutcome {
-    pub answer: Answer,
-    pub state: RegistryState,
-}
-
-// Whether so many backers can meet the toad.
-fn threshold_fits(toad: Toad, backers: Members) -> Answer
-    ensures { λ r. ⌜ r ≡ thresholdFits (toad .0) (view backers) ⌝ }
-{
-    accept_if(
-        toad.is_exact(backers.size()),
-        RegistryRejection::BackerThreshold,
-    )
-}
-
-// A vcp's checks behind its kind.
-fn vcp_answer(a: Attempt, s: &[u8]) -> Answer
-    requires { ⌜ Anchored (now s) a ⌝ }
-    ensures { λ r. ⌜ r ≡ vcpAnswer (a .event .said) (a .event .issuer) (a .event .toad .0) (viewConfigs (a .event .configs)) (view (a .event .backers)) (viewAttempt (now (s .entry)) a) ⌝ }
-{
-    let issuer = a.event.issuer;
-    let backers = a.event.backers;
-    let toad = a.event.toad;
-    let zero = Sn { hi: 0, lo: 0 };
-    let named = names_issuer(a.evidence, a.issuer, issuer);
-    let prefix = accept_if(named, RegistryRejection::InconsistentIssuer);
-    let clash = a.event.configs.no_backers() & !(backers.size() == 0);
-    let flavor = accept_if(!clash, RegistryRejection::NoBackersWithBackers);
-    let members = backer_set(MemberSet::check_members(backers));
-    let threshold = threshold_fits(toad, backers);
-    let anchor = message_anchored(a, s, issuer, a.event.said, zero);
-    let receipts = enough_receipts(s, a.signatures, backers, toad);
-    let late = or_else(anchor, or_else(receipts, Answer::Accepted));
-    or_else(
-        prefix,
-        or_else(flavor, or_else(members, or_else(threshold, late))),
-    )
-}
-
-fn incept_event(a: Attempt, s: &[u8]) -> Answer
-    requires { ⌜ Anchored (now s) a ⌝ }
-    ensures { λ r. ⌜ r ≡ inceptEvent (viewEvent (a .event)) (viewAttempt (now (s .entry)) a) ⌝ }
-{
-    let e = a.event;
-    let kind = e.kind;
-    match kind {
-        Kind::Vcp => vcp_answer(a, s),
-        Kind::Vrt => Answer::Rejected(RegistryRejection::NotRegistryInception),
-        Kind::Iss => Answer::Rejected(RegistryRejection::NotRegistryInception),
-        Kind::Rev => Answer::Rejected(RegistryRejection::NotRegistryInception),
-        Kind::Bis => Answer::Rejected(RegistryRejection::NotRegistryInception),
-        Kind::Brv => Answer::Rejected(RegistryRejection::NotRegistryInception),
-    }
-}
-
-// The state that a vcp leaves.
-fn incepted(e: TelEvent) -> RegistryState
-    ensures view { λ r. ⌜ (e .kind ≡ Vcp → viewRegistry r ≡ incepted (viewEvent e)) ⌝ }
-    ensures counts { λ r. ⌜ (r .configs .count ≤ 8) × (r .backers .count ≤ 16) ⌝ }
-{
-    let said = e.said;
-    let issuer = e.issuer;
-    let toad = e.toad;
-    let configs = e.configs.trimmed();
-    let backers = e.backers.trimmed();
-    RegistryState {
-        id: said,
-        issuer,
-        sn: Sn { hi: 0, lo: 0 },
-        latest: said,
-        toad,
-        configs,
-        backers,
-    }
-}
-
-fn incept_outcome(a: Attempt, s: &[u8]) -> RegistryOutcome
-    requires { ⌜ Anchored (now s) a ⌝ }
-    ensures view { λ r. ⌜ viewOutcome r ≡ inceptMessage (viewAttempt (now (s .entry)) a) ⌝ }
-    ensures counts { λ r. ⌜ (accepts (r .answer) ≡ true → (r .state .configs .count ≤ 8) × (r .state .backers .count ≤ 16)) ⌝ }
-{
-    let answer = or_else(issuer_kind(a.evidence), incept_event(a, s));
-    if accepts(answer) {
-        let state = incepted(a.event);
-        return RegistryOutcome { answer, state };
-    }
-    let state = RegistryState::none();
-    RegistryOutcome { answer, state }
-}
-
-// The first event of a registry.
-pub fn incept_with_evidence(s: &[u8]) -> RegistryOutcome
-    ensures outcome { λ r. ⌜ viewOutcome r ≡ inceptOf (now (s .entry)) ⌝ }
-    ensures within { λ r. ⌜ (accepts (r .answer) ≡ true → wellRegistry (r .state) ≡ true) ⌝ }
-{
-    let d = Attempt::decode(s);
-    if d.ok {
-        return incept_outcome(d.attempt, s);
-    }
-    let state = RegistryState::none();
-    RegistryOutcome {
-        answer: Answer::Rejected(RegistryRejection::Malformed),
-        state,
-    }
-}
+ghost use Rattle.registry_inception.specs.InceptionFolds.{viewOutcome};
+ghost use Rattle.registry.specs.RegistryFolds.{Ingested, vrtBackers, vrtAnswer, ingestOf};
 
 // The members after a rotation, where its lists, its toad and its receipts pass.
 struct Rotation {

@@ -22,7 +22,7 @@ use Rattle.registry_error.specs.Answers.{accepts}
 use Rattle.registry_error.specs.declared.error.Answer.the-variants.{Rejected}
 use Rattle.registry_error.specs.declared.error.RegistryRejection.the-variants.{Malformed, NoBackersWithBackers, BackerThreshold}
 use Rattle.registry_authentication.specs.Issuers.{issuerKind}
-use Rattle.registry.specs.RegistryFolds.{Outcome, thresholdFits, vcpAnswer, inceptEvent, inceptAnswer, incepted, inceptMessage, inceptDecoded, inceptOf}
+use Rattle.registry_inception.specs.InceptionFolds.{Outcome, thresholdFits, vcpAnswer, inceptEvent, inceptAnswer, incepted, inceptMessage, inceptDecoded, inceptOf}
 use Rattle.registry_error.proofs.AnswerLaws.{or-second, passed}
 use Rattle.registry_laws.specs.ReadingRules.{soundRegistry}
 use Rattle.registry_laws.proofs.Chains.{all-accept, set-sound}

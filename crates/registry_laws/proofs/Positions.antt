@@ -34,9 +34,11 @@ use Rattle.registry_error.specs.declared.error.Answer.the-variants.{Rejected}
 use Rattle.registry_error.specs.declared.error.RegistryRejection.the-variants.{Malformed, SequenceNumberOverflow, OutOfOrder, BackerSet}
 use Rattle.registry_authentication.specs.Issuers.{issuerKind, anchored, authenticateIssuer}
 use Rattle.registry_authentication.specs.Backers.{resolvedBy, resolved, authority, enoughReceipts, backedBy, authenticateBacker}
+use Rattle.registry_inception.specs.InceptionFolds as inceptions
 use Rattle.registry.specs.RegistryFolds as registries
 use Rattle.registry_verification.specs.Sequence.{snBehind, nextSn}
-use Rattle.registry.specs.RegistryFolds.{thresholdFits, vcpAnswer, vrtBackers, vrtAnswer}
+use Rattle.registry_inception.specs.InceptionFolds.{thresholdFits, vcpAnswer}
+use Rattle.registry.specs.RegistryFolds.{vrtBackers, vrtAnswer}
 use Rattle.registry_credential_state.specs.CredentialFolds as credentials
 use Rattle.registry_credential_state.specs.CredentialFolds.{issAnswer, bisAnswer, transition, revAnswer, brvAnswer}
 use Rattle.registry_laws.specs.Positions.{alone, listsOf}
@@ -124,7 +126,7 @@ lists-placed now toad cuts additions l =
     all-placed s _ (deltas, (current, (if-placed s _ _ refl, (toad-placed s toad _, (receipts-placed s toad _ l, tt)))))
 
 module _ (m : Message) where
-  incepts-placed : (e : Event) → Placed (listsOf [] e) (registries.inceptEvent e m)
+  incepts-placed : (e : Event) → Placed (listsOf [] e) (inceptions.inceptEvent e m)
   incepts-placed (vcp said prefix toad configs backers) = vcp-placed said prefix toad configs backers m
   incepts-placed (vrt said registry prior sn toad cuts additions) = other-placed _ _ refl
   incepts-placed (iss said credential registry) = other-placed _ _ refl
@@ -133,11 +135,11 @@ module _ (m : Message) where
   incepts-placed (brv said credential prior seal) = other-placed _ _ refl
 
   -- Where an inception is refused with 24, the element at the position breaks the rule, in the list of the vcp.
-  pub inception-offends : (rule : Rule) (i : ℕ) → registries.inceptMessage m .answer ≡ Rejected (BackerSet rule i) → Offends (Broken rule i) (listsOf [] (m .event))
-  unfolding registries.inceptMessage registries.inceptAnswer
+  pub inception-offends : (rule : Rule) (i : ℕ) → inceptions.inceptMessage m .answer ≡ Rejected (BackerSet rule i) → Offends (Broken rule i) (listsOf [] (m .event))
+  unfolding inceptions.inceptMessage inceptions.inceptAnswer
   inception-offends =
       let s = listsOf [] (m .event) in
-      or-placed s (issuerKind (m .evidence)) (registries.inceptEvent (m .event) m) (kind-placed s (m .evidence)) (incepts-placed (m .event))
+      or-placed s (issuerKind (m .evidence)) (inceptions.inceptEvent (m .event) m) (kind-placed s (m .evidence)) (incepts-placed (m .event))
 
 module _ (g : Registry) (m : Message) where
   vrt-placed : (said registry prior : Said) (sn : Sn) (toad : ℕ) (cuts additions : List BasicPrefix) → Placed (record { backers = g .backers; cuts = cuts; additions = additions }) (vrtAnswer g said registry prior sn toad cuts additions m)
@@ -206,8 +208,8 @@ module _ (g : Registry) (m : Message) where
 
 -- The same of bytes that hold a message.
 module _ (s : List ℕ) (m : Message) (d : decodeOf s ≡ decoded m) where
-  pub inception-offends-bytes : (rule : Rule) (i : ℕ) → registries.inceptOf s .answer ≡ Rejected (BackerSet rule i) → Offends (Broken rule i) (listsOf [] (m .event))
-  unfolding registries.inceptOf
+  pub inception-offends-bytes : (rule : Rule) (i : ℕ) → inceptions.inceptOf s .answer ≡ Rejected (BackerSet rule i) → Offends (Broken rule i) (listsOf [] (m .event))
+  unfolding inceptions.inceptOf
   inception-offends-bytes rule i h = inception-offends m rule i (rw d at h)
 
   pub rotation-offends-bytes : (g : RegistryState) (rule : Rule) (i : ℕ) → registries.ingestOf g s .answer ≡ Rejected (BackerSet rule i) → Offends (Broken rule i) (listsOf (viewRegistry g .backers) (m .event))
@@ -215,7 +217,7 @@ module _ (s : List ℕ) (m : Message) (d : decodeOf s ≡ decoded m) where
   rotation-offends-bytes g =
       let h = viewRegistry g in
       rw d
-      (cond-placed _ (λ (r : registries.Outcome). r .answer) (wellRegistry g) (registries.ingestMessage h m) (record { answer = Rejected Malformed; state = h }) (rotation-offends h m) (other-placed _ _ refl))
+      (cond-placed _ (λ (r : inceptions.Outcome). r .answer) (wellRegistry g) (registries.ingestMessage h m) (record { answer = Rejected Malformed; state = h }) (rotation-offends h m) (other-placed _ _ refl))
 
   pub issue-offends-bytes : (g : RegistryState) (rule : Rule) (i : ℕ) → credentials.inceptOf g s .answer ≡ Rejected (BackerSet rule i) → Offends (Broken rule i) (listsOf (authority (viewRegistry g) (m .evidence) .backers) (m .event))
   unfolding credentials.inceptOf

@@ -38,7 +38,7 @@ use Rattle.registry_authentication.specs.Backers.{namesRegistry}
 use Rattle.registry_credential_state.specs.CredentialFolds.{Outcome, transition, revAnswer, brvAnswer, ingestEvent, ingestAnswer, revoked, ingestMessage, ingestDecoded, ingestOf}
 use Rattle.registry_verification.specs.Sequence.{nextSn}
 use Rattle.registry_error.proofs.AnswerLaws.{or-first, or-second, passed}
-use Rattle.registry.proofs.RegistryLaws.{good-event}
+use Rattle.registry_inception.proofs.InceptionLaws.{good-event}
 use Rattle.registry.proofs.WellLaws.{well-view}
 use Rattle.registry_laws.specs.Pairs.{Pair, pairUnder, pairIn, pairOf, pairDecoded, pairOfBytes, keyOf}
 use Rattle.registry_laws.proofs.Chains.{all-accept}

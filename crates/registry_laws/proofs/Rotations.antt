@@ -28,7 +28,8 @@ use Rattle.registry_error.specs.Answers.{accepts, backerSet}
 use Rattle.registry_error.specs.declared.error.Answer.the-variants.{Rejected}
 use Rattle.registry_error.specs.declared.error.RegistryRejection.the-variants.{Malformed, RotationOnBackerlessRegistry, BackerThreshold}
 use Rattle.registry_verification.specs.Updated.{updatedMembers}
-use Rattle.registry.specs.RegistryFolds.{Outcome, thresholdFits, vrtBackers, vrtAnswer, ingestEvent, rotated, ingestMessage, ingestDecoded, ingestOf}
+use Rattle.registry_inception.specs.InceptionFolds.{Outcome, thresholdFits}
+use Rattle.registry.specs.RegistryFolds.{vrtBackers, vrtAnswer, ingestEvent, rotated, ingestMessage, ingestDecoded, ingestOf}
 use Rattle.registry_error.proofs.AnswerLaws.{passed}
 use Rattle.registry_laws.specs.ReadingRules.{soundRegistry}
 use Rattle.registry_laws.specs.States.{OneRegistry}

@@ -2,7 +2,7 @@ use denote.Ref.{now}
 use mathlib.Core.Path.{sym, ap, _∙_}
 use native.Mathlib.Omega.{arith}
 use Rattle.registry_error.specs.Answers.{accepts}
-use Rattle.registry.specs.RegistryFolds.{Outcome}
+use Rattle.registry_inception.specs.InceptionFolds.{Outcome}
 use Rattle.ledger_asked.specs.Checks.{inceptionAnswer}
 use Rattle.ledger_next.proofs.Left.{inception-accepts, leaves-all, new-registry}
 use borrow.Author.Needs.{needs}

@@ -1,6 +1,6 @@
 use denote.Ref.{now}
 use mathlib.Core.Path.{sym, ap, _∙_}
-use Rattle.registry.specs.RegistryFolds.{Outcome}
+use Rattle.registry_inception.specs.InceptionFolds.{Outcome}
 use Rattle.ledger_asked.specs.Checks.{rotationAnswer}
 use Rattle.ledger_next.proofs.Left.{leaves-all, next-registry}
 use borrow.Author.Needs.{needs}

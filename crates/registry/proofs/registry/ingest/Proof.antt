@@ -8,8 +8,9 @@ use borrow.Author.Tests.{leb-true}
 use Rattle.registry_state.specs.States.{viewRegistry, wellRegistry}
 use Rattle.registry_wire.specs.Attempts.{viewAttempt}
 use Rattle.registry_error.specs.Answers.{accepts}
-use Rattle.registry.specs.RegistryFolds.{Outcome}
-use Rattle.registry.proofs.WellLaws.{Lettered, well-by-view, well-view}
+use Rattle.registry_inception.specs.InceptionFolds.{Outcome}
+use Rattle.registry_inception.proofs.WellLaws.{Lettered, well-by-view}
+use Rattle.registry.proofs.WellLaws.{well-view}
 use Rattle.registry.proofs.RegistryLaws.{ingest-lettered, ingest-decoded, ingest-malformed}
 use borrow.Author.Needs.{needs}
 use Rattle.registry.proofs.registry.ingest.Statement.{statement}

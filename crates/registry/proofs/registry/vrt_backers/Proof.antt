@@ -4,7 +4,8 @@ use Rattle.registry_error.specs.Answers.{acceptIf, backerSet, orElse, firstOf}
 use Rattle.registry_error.specs.declared.error.Answer.the-variants.{Accepted}
 use Rattle.registry_error.specs.declared.error.RegistryRejection.the-variants.{TooManyBackers}
 use Rattle.registry_authentication.specs.Backers.{enoughReceipts}
-use Rattle.registry.specs.RegistryFolds.{vrtBackers, thresholdFits}
+use Rattle.registry_inception.specs.InceptionFolds.{thresholdFits}
+use Rattle.registry.specs.RegistryFolds.{vrtBackers}
 use denote.Ref.{now}
 use mathlib.Core.Path.{_≡_, _∙_}
 use mathlib.Core.Bool.{cond}

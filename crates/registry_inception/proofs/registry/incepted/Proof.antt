@@ -1,6 +1,6 @@
 use borrow.Author.Needs.{needs}
-use Rattle.registry.proofs.registry.incepted.Statement.{statement}
-use Rattle.registry.proofs.registry.incepted.Tie as tie
+use Rattle.registry_inception.proofs.registry.incepted.Statement.{statement}
+use Rattle.registry_inception.proofs.registry.incepted.Tie as tie
 
 trimmed-requires : tie.Need-trimmed-requires
 trimmed-requires c κs = search needs

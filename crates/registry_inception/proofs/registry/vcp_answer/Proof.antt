@@ -2,11 +2,11 @@ use native.Mathlib.Omega.{arith}
 use Rattle.registry_authentication.proofs.AnchorUse.{message-in}
 use Rattle.events_tel.specs.TelEvents.{snZero}
 use denote.Ref.{now}
-use Rattle.registry.specs.RegistryFolds.{vcpAnswer}
+use Rattle.registry_inception.specs.InceptionFolds.{vcpAnswer}
 use Rattle.registry_error.specs.Answers.{firstOf}
 use borrow.Author.Needs.{needs}
-use Rattle.registry.proofs.registry.vcp_answer.Statement.{statement}
-use Rattle.registry.proofs.registry.vcp_answer.Tie as tie
+use Rattle.registry_inception.proofs.registry.vcp_answer.Statement.{statement}
+use Rattle.registry_inception.proofs.registry.vcp_answer.Tie as tie
 
 names-issuer-requires : tie.Need-names-issuer-requires
 names-issuer-requires c κs = search needs

@@ -1,7 +1,7 @@
-use Rattle.registry.specs.RegistryFolds.{thresholdFits}
+use Rattle.registry_inception.specs.InceptionFolds.{thresholdFits}
 use borrow.Author.Needs.{needs}
-use Rattle.registry.proofs.registry.threshold_fits.Statement.{statement}
-use Rattle.registry.proofs.registry.threshold_fits.Tie as tie
+use Rattle.registry_inception.proofs.registry.threshold_fits.Statement.{statement}
+use Rattle.registry_inception.proofs.registry.threshold_fits.Tie as tie
 
 size-requires : tie.Need-size-requires
 size-requires c κs = search needs

@@ -5,11 +5,11 @@ use Rattle.events_tel.specs.declared.tel.Kind.the-variants.{Vcp}
 use Rattle.registry_state.specs.States.{viewRegistry}
 use Rattle.registry_wire.specs.Attempts.{viewAttempt}
 use Rattle.registry_error.specs.Answers.{accepts}
-use Rattle.registry.specs.RegistryFolds.{inceptAnswer}
-use Rattle.registry.proofs.RegistryLaws.{incept-kind, incept-accepted, incept-refused}
+use Rattle.registry_inception.specs.InceptionFolds.{inceptAnswer}
+use Rattle.registry_inception.proofs.InceptionLaws.{incept-kind, incept-accepted, incept-refused}
 use borrow.Author.Needs.{needs}
-use Rattle.registry.proofs.registry.incept_outcome.Statement.{statement}
-use Rattle.registry.proofs.registry.incept_outcome.Tie as tie
+use Rattle.registry_inception.proofs.registry.incept_outcome.Statement.{statement}
+use Rattle.registry_inception.proofs.registry.incept_outcome.Tie as tie
 
 issuer-kind-requires : tie.Need-issuer-kind-requires
 issuer-kind-requires c κs = search needs

@@ -3,10 +3,10 @@ use Rattle.events_tel.specs.TelEvents.{eventAs}
 use Rattle.registry_wire.specs.Attempts.{viewAttempt}
 use denote.Ref.{now}
 use mathlib.Core.Path.{sym, ap}
-use Rattle.registry.specs.RegistryFolds.{inceptEvent}
+use Rattle.registry_inception.specs.InceptionFolds.{inceptEvent}
 use borrow.Author.Needs.{needs}
-use Rattle.registry.proofs.registry.incept_event.Statement.{statement}
-use Rattle.registry.proofs.registry.incept_event.Tie as tie
+use Rattle.registry_inception.proofs.registry.incept_event.Statement.{statement}
+use Rattle.registry_inception.proofs.registry.incept_event.Tie as tie
 
 enum-told : tie.Need-enum-told
 enum-told c = search needs

@@ -4,13 +4,13 @@ use mathlib.Core.Path.{sym, ap, subst, _∙_}
 use mathlib.Core.Bool.{false≢true}
 use Rattle.registry_wire.specs.Attempts.{viewAttempt}
 use Rattle.registry_error.specs.Answers.{accepts}
-use Rattle.registry.specs.RegistryFolds.{Outcome}
+use Rattle.registry_inception.specs.InceptionFolds.{Outcome}
 use Rattle.registry_authentication.proofs.AnchorUse.{decoded-good, anchored-parts}
-use Rattle.registry.proofs.WellLaws.{Lettered, well-by-view}
-use Rattle.registry.proofs.RegistryLaws.{incept-lettered, incept-decoded, incept-malformed}
+use Rattle.registry_inception.proofs.WellLaws.{Lettered, well-by-view}
+use Rattle.registry_inception.proofs.InceptionLaws.{incept-lettered, incept-decoded, incept-malformed}
 use borrow.Author.Needs.{needs}
-use Rattle.registry.proofs.registry.incept_with_evidence.Statement.{statement}
-use Rattle.registry.proofs.registry.incept_with_evidence.Tie as tie
+use Rattle.registry_inception.proofs.registry.incept_with_evidence.Statement.{statement}
+use Rattle.registry_inception.proofs.registry.incept_with_evidence.Tie as tie
 
 decode-requires : tie.Need-decode-requires
 decode-requires c κs = search needs

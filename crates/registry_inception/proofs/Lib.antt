@@ -1,0 +1,2 @@
+pub mod InceptionLaws
+pub mod WellLaws
