@@ -6,6 +6,7 @@ use ledger_registries::registries::registries_sound;
 use ledger_rows::rows::find_at;
 use ledger_rows::rows::read_row;
 use ledger_rows::rows::rows_sound;
+use ledger_step::number::lesser;
 use registry_state::state::CredentialState;
 use registry_state::state::RegistryState;
 ghost use mathlib.Core.Path.{_≡_};
@@ -21,15 +22,6 @@ fn is_found(at: usize, count: usize, len: usize) -> bool
     ensures { λ r. ⌜ r ≡ ltb at (min count len) ⌝ }
 {
     (at < count) & (at < len)
-}
-
-fn lesser(a: usize, b: usize) -> usize
-    ensures { λ r. ⌜ r ≡ min a b ⌝ }
-{
-    if a < b {
-        return a;
-    }
-    b
 }
 
 // Whether the registry of each of the first `row_count` rows is among the first `registry_count` registries.

@@ -1,13 +1,14 @@
 // Registries behind a slice of states, in the order in which they arrived (docs/RULES.md, "Ledger", "Reading rules"). These functions find an id, read a registry, store a registry and check them all; no other function has to reach into the slice.
 use cesr::primitive::Said;
 use events::member_set::MemberSet;
+use ledger_step::number::lesser;
 use registry_error::answer::accepts;
 use registry_error::answer::backer_set;
 use registry_state::state::RegistryState;
 ghost use mathlib.Core.Path.{_≡_};
 ghost use mathlib.Core.Bool.{_&&_};
 ghost use mathlib.Core.List.{map};
-ghost use Prim.Native.Nat.{_<_, min};
+ghost use Prim.Native.Nat.{_<_};
 ghost use lib.ListN.{length, getD, set, take};
 ghost use lib.Dec.{eqb, leb};
 ghost use Rattle.registry_state.specs.States.{viewRegistry, wellRegistry};
@@ -33,15 +34,6 @@ pub fn store_registry(registries: &mut [RegistryState], at: usize, g: RegistrySt
     if at < registries.len() {
         registries[at] = g;
     }
-}
-
-fn lesser(a: usize, b: usize) -> usize
-    ensures { λ r. ⌜ r ≡ min a b ⌝ }
-{
-    if a < b {
-        return a;
-    }
-    b
 }
 
 // The first place among the first `count` registries whose registry has that id. Where there is none it answers how many these registries are: the count, or the slice's length where that is less.

@@ -1,6 +1,7 @@
 // Registries behind a slice, and the bytes that an image has of them: how many, how they are written, how they are read (docs/RULES.md, "Image").
 use codec_cursor::cursor::Cursor;
 use ledger_image::image::write_count;
+use ledger_step::number::lesser;
 use registry_state::state::RegistryRead;
 use registry_state::state::RegistryState;
 ghost use mathlib.Core.Path.{_≡_};
@@ -14,15 +15,6 @@ ghost use Rattle.laws.specs.Room.{put};
 ghost use Rattle.registry_state.specs.States.{viewRegistry, registryBytes, readRegistry};
 ghost use Rattle.ledger_step.specs.Ledgers.{heldOf};
 ghost use Rattle.ledger_registry_image.specs.RegistrySections.{sectionOf, heldRead, Stored};
-
-fn lesser(a: usize, b: usize) -> usize
-    ensures { λ r. ⌜ r ≡ min a b ⌝ }
-{
-    if a < b {
-        return a;
-    }
-    b
-}
 
 // How many registries the section has: the count, but no more than 16 and than the slice has.
 fn section_count(count: usize, len: usize) -> usize

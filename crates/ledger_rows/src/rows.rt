@@ -1,10 +1,10 @@
 // Credential rows behind a slice of states. These functions find a key, read a row, store a row and check them all; no other function has to reach into the slice.
 use cesr::number::Sn;
 use cesr::primitive::Said;
+use ledger_step::number::lesser;
 use registry_state::state::CredentialState;
 ghost use mathlib.Core.Path.{_≡_};
 ghost use mathlib.Core.Bool.{_&&_};
-ghost use Prim.Native.Nat.{min};
 ghost use lib.ListN.{length, take, set};
 ghost use lib.Dec.{eqb, leb};
 ghost use Rattle.registry_state.specs.States.{wellCredential};
@@ -28,15 +28,6 @@ pub fn store_row(rows: &mut [CredentialState], at: usize, w: CredentialState)
     if at < rows.len() {
         rows[at] = w;
     }
-}
-
-fn lesser(a: usize, b: usize) -> usize
-    ensures { λ r. ⌜ r ≡ min a b ⌝ }
-{
-    if a < b {
-        return a;
-    }
-    b
 }
 
 // Most rows differ from a key in the first word of the credential, so that is looked at first: the check of all rows compares every two of them.

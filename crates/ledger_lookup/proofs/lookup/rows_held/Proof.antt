@@ -60,10 +60,10 @@ use Rattle.cesr.proofs.primitive.Said.Laws as S′
 use Rattle.registry_state.proofs.state.RegistryState as G
 use Rattle.registry_state.proofs.state.CredentialState as T
 use Rattle.registry_state.proofs.state.CredentialState.Laws as T′
-use Rattle.ledger_lookup.proofs.lookup.lesser as less
-use Rattle.ledger_lookup.proofs.lookup.lesser.Symbol as less-def
-use Rattle.ledger_lookup.proofs.lookup.lesser.Symbol.{name as #less}
-use Rattle.ledger_lookup.proofs.lookup.lesser.Met as less-thm
+use Rattle.ledger_step.proofs.number.lesser as less
+use Rattle.ledger_step.proofs.number.lesser.Symbol as less-def
+use Rattle.ledger_step.proofs.number.lesser.Symbol.{name as #less}
+use Rattle.ledger_step.proofs.number.lesser.Met as less-thm
 use Rattle.ledger_registries.proofs.registries.find_registry as find
 use Rattle.ledger_registries.proofs.registries.find_registry.Symbol as find-def
 use Rattle.ledger_registries.proofs.registries.find_registry.Symbol.{name as #find}
@@ -317,6 +317,6 @@ rows-held-spec 𝓤 H 𝓜 𝓖 𝓡 =
     entered 𝓤 H (tripleOf 𝓤 H (𝓖 .A) me.signature (me.spec 𝓤 H (𝓖 .A) (𝓜 .mem) (𝓡 .run)))
     (tables 𝓤 H 𝓜 𝓡 code.env .C) (tables 𝓤 H 𝓜 𝓡 code.env .Λ) #me code.function (code.unfolded 𝓤 H 𝓜 𝓡)
     (me-meets 𝓤 H (𝓖 .A) (givenOf 𝓤 H 𝓜 𝓖) (𝓜 .mem) (𝓡 .run) (tablesOf 𝓤 H 𝓜 (tables 𝓤 H 𝓜 𝓡 code.env))
-    (cited 𝓤 H (Lesser 𝓤 H (𝓖 .A) (𝓜 .mem) (𝓡 .run)) 𝓜 𝓡 code.env #less less-def.routine code.calls-ledger-lookup·lookup·lesser (less-thm.met 𝓤 H 𝓜 𝓖 𝓡))
+    (cited 𝓤 H (Lesser 𝓤 H (𝓖 .A) (𝓜 .mem) (𝓡 .run)) 𝓜 𝓡 code.env #less less-def.routine code.calls-ledger-step·number·lesser (less-thm.met 𝓤 H 𝓜 𝓖 𝓡))
     (cited 𝓤 H (FindRegistry 𝓤 H (𝓖 .A) (𝓜 .mem) (𝓡 .run)) 𝓜 𝓡 code.env #find find-def.routine code.calls-ledger-registries·registries·find-registry (find-thm.met 𝓤 H 𝓜 𝓖 𝓡))
     (cited 𝓤 H (IsFound 𝓤 H (𝓖 .A) (𝓜 .mem) (𝓡 .run)) 𝓜 𝓡 code.env #test test-def.routine code.calls-ledger-lookup·lookup·is-found (test-thm.met 𝓤 H 𝓜 𝓖 𝓡)))

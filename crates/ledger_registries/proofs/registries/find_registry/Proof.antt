@@ -59,10 +59,10 @@ use Rattle.cesr.proofs.primitive.Said as S
 use Rattle.cesr.proofs.primitive.Said.Laws as S′
 use Rattle.registry_state.proofs.state.RegistryState as T
 use Rattle.registry_state.proofs.state.RegistryState.Laws as T′
-use Rattle.ledger_registries.proofs.registries.lesser as less
-use Rattle.ledger_registries.proofs.registries.lesser.Symbol as less-def
-use Rattle.ledger_registries.proofs.registries.lesser.Symbol.{name as #less}
-use Rattle.ledger_registries.proofs.registries.lesser.Met as less-thm
+use Rattle.ledger_step.proofs.number.lesser as less
+use Rattle.ledger_step.proofs.number.lesser.Symbol as less-def
+use Rattle.ledger_step.proofs.number.lesser.Symbol.{name as #less}
+use Rattle.ledger_step.proofs.number.lesser.Met as less-thm
 use Rattle.cesr.proofs.primitive.Said.same as same
 use Rattle.cesr.proofs.primitive.Said.same.Symbol as same-def
 use Rattle.cesr.proofs.primitive.Said.same.Symbol.{name as #same}
@@ -292,5 +292,5 @@ find-registry-spec 𝓤 H 𝓜 𝓖 𝓡 =
     entered 𝓤 H (tripleOf 𝓤 H (𝓖 .A) me.signature (me.spec 𝓤 H (𝓖 .A) (𝓜 .mem) (𝓡 .run)))
     (tables 𝓤 H 𝓜 𝓡 code.env .C) (tables 𝓤 H 𝓜 𝓡 code.env .Λ) #me code.function (code.unfolded 𝓤 H 𝓜 𝓡)
     (me-meets 𝓤 H (𝓖 .A) (givenOf 𝓤 H 𝓜 𝓖) (𝓜 .mem) (𝓡 .run) (tablesOf 𝓤 H 𝓜 (tables 𝓤 H 𝓜 𝓡 code.env))
-    (cited 𝓤 H (Lesser 𝓤 H (𝓖 .A) (𝓜 .mem) (𝓡 .run)) 𝓜 𝓡 code.env #less less-def.routine code.calls-ledger-registries·registries·lesser (less-thm.met 𝓤 H 𝓜 𝓖 𝓡))
+    (cited 𝓤 H (Lesser 𝓤 H (𝓖 .A) (𝓜 .mem) (𝓡 .run)) 𝓜 𝓡 code.env #less less-def.routine code.calls-ledger-step·number·lesser (less-thm.met 𝓤 H 𝓜 𝓖 𝓡))
     (cited 𝓤 H (Same 𝓤 H (𝓖 .A) (𝓜 .mem) (𝓡 .run)) 𝓜 𝓡 code.env #same same-def.routine code.calls-cesr·primitive·Said·same (same-thm.met 𝓤 H 𝓜 𝓖 𝓡)))

@@ -66,10 +66,10 @@ use Rattle.registry_state.proofs.state.RegistryRead as R
 use Rattle.registry_state.proofs.state.RegistryRead.Laws as R′
 use Rattle.registry_state.proofs.state.RegistryState as T
 use Rattle.registry_state.proofs.state.RegistryState.Laws as T′
-use Rattle.ledger_registry_image.proofs.registries.lesser as less
-use Rattle.ledger_registry_image.proofs.registries.lesser.Symbol as less-def
-use Rattle.ledger_registry_image.proofs.registries.lesser.Symbol.{name as #less}
-use Rattle.ledger_registry_image.proofs.registries.lesser.Met as less-thm
+use Rattle.ledger_step.proofs.number.lesser as less
+use Rattle.ledger_step.proofs.number.lesser.Symbol as less-def
+use Rattle.ledger_step.proofs.number.lesser.Symbol.{name as #less}
+use Rattle.ledger_step.proofs.number.lesser.Met as less-thm
 use Rattle.ledger_registry_image.proofs.registries.read_next as next
 use Rattle.ledger_registry_image.proofs.registries.read_next.Symbol as next-def
 use Rattle.ledger_registry_image.proofs.registries.read_next.Symbol.{name as #next}
@@ -350,5 +350,5 @@ store-registries-spec 𝓤 H 𝓜 𝓖 𝓡 =
     entered 𝓤 H (tripleOf 𝓤 H (𝓖 .A) me.signature (me.spec 𝓤 H (𝓖 .A) (𝓜 .mem) (𝓡 .run)))
     (tables 𝓤 H 𝓜 𝓡 code.env .C) (tables 𝓤 H 𝓜 𝓡 code.env .Λ) #me code.function (code.unfolded 𝓤 H 𝓜 𝓡)
     (me-meets 𝓤 H (𝓖 .A) (givenOf 𝓤 H 𝓜 𝓖) (𝓜 .mem) (𝓡 .run) (tablesOf 𝓤 H 𝓜 (tables 𝓤 H 𝓜 𝓡 code.env))
-    (cited 𝓤 H (Lesser 𝓤 H (𝓖 .A) (𝓜 .mem) (𝓡 .run)) 𝓜 𝓡 code.env #less less-def.routine code.calls-ledger-registry-image·registries·lesser (less-thm.met 𝓤 H 𝓜 𝓖 𝓡))
+    (cited 𝓤 H (Lesser 𝓤 H (𝓖 .A) (𝓜 .mem) (𝓡 .run)) 𝓜 𝓡 code.env #less less-def.routine code.calls-ledger-step·number·lesser (less-thm.met 𝓤 H 𝓜 𝓖 𝓡))
     (cited 𝓤 H (Nexts 𝓤 H (𝓖 .A) (𝓜 .mem) (𝓡 .run)) 𝓜 𝓡 code.env #next next-def.routine code.calls-ledger-registry-image·registries·read-next (next-thm.met 𝓤 H 𝓜 𝓖 𝓡)))

@@ -58,10 +58,10 @@ use Rattle.cesr.proofs.primitive.Said as S
 use Rattle.cesr.proofs.primitive.Said.Laws as S′
 use Rattle.registry_state.proofs.state.CredentialState as T
 use Rattle.registry_state.proofs.state.CredentialState.Laws as T′
-use Rattle.ledger_rows.proofs.rows.lesser as less
-use Rattle.ledger_rows.proofs.rows.lesser.Symbol as less-def
-use Rattle.ledger_rows.proofs.rows.lesser.Symbol.{name as #less}
-use Rattle.ledger_rows.proofs.rows.lesser.Met as less-thm
+use Rattle.ledger_step.proofs.number.lesser as less
+use Rattle.ledger_step.proofs.number.lesser.Symbol as less-def
+use Rattle.ledger_step.proofs.number.lesser.Symbol.{name as #less}
+use Rattle.ledger_step.proofs.number.lesser.Met as less-thm
 use Rattle.ledger_rows.proofs.rows.has_key as has
 use Rattle.ledger_rows.proofs.rows.has_key.Symbol as has-def
 use Rattle.ledger_rows.proofs.rows.has_key.Symbol.{name as #has}
@@ -291,5 +291,5 @@ find-at-spec 𝓤 H 𝓜 𝓖 𝓡 =
     entered 𝓤 H (tripleOf 𝓤 H (𝓖 .A) me.signature (me.spec 𝓤 H (𝓖 .A) (𝓜 .mem) (𝓡 .run)))
     (tables 𝓤 H 𝓜 𝓡 code.env .C) (tables 𝓤 H 𝓜 𝓡 code.env .Λ) #me code.function (code.unfolded 𝓤 H 𝓜 𝓡)
     (me-meets 𝓤 H (𝓖 .A) (givenOf 𝓤 H 𝓜 𝓖) (𝓜 .mem) (𝓡 .run) (tablesOf 𝓤 H 𝓜 (tables 𝓤 H 𝓜 𝓡 code.env))
-    (cited 𝓤 H (Lesser 𝓤 H (𝓖 .A) (𝓜 .mem) (𝓡 .run)) 𝓜 𝓡 code.env #less less-def.routine code.calls-ledger-rows·rows·lesser (less-thm.met 𝓤 H 𝓜 𝓖 𝓡))
+    (cited 𝓤 H (Lesser 𝓤 H (𝓖 .A) (𝓜 .mem) (𝓡 .run)) 𝓜 𝓡 code.env #less less-def.routine code.calls-ledger-step·number·lesser (less-thm.met 𝓤 H 𝓜 𝓖 𝓡))
     (cited 𝓤 H (HasKey 𝓤 H (𝓖 .A) (𝓜 .mem) (𝓡 .run)) 𝓜 𝓡 code.env #has has-def.routine code.calls-ledger-rows·rows·has-key (has-thm.met 𝓤 H 𝓜 𝓖 𝓡)))
