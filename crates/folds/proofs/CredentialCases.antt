@@ -9,8 +9,9 @@ use lib.ListN.{replicate}
 use Rattle.laws.specs.Words.{sameList}
 use Rattle.registry_state.specs.States.{viewRegistry, credentialBytes, wellRegistry}
 use Rattle.registry_error.specs.Answers.{accepts}
-use Rattle.registry_credential_state.specs.declared.credential_state.CredentialOutcome.{CredentialOutcome}
-use Rattle.registry_credential_state.specs.CredentialFolds.{Outcome, inceptOf, ingestOf, viewOutcome}
+use Rattle.registry_issue.specs.declared.credential_state.CredentialOutcome.{CredentialOutcome}
+use Rattle.registry_issue.specs.IssueFolds.{Outcome, inceptOf, viewOutcome}
+use Rattle.registry_credential_state.specs.CredentialFolds.{ingestOf}
 use Rattle.folds.specs.declared.part.Finding.{Finding}
 use Rattle.folds.specs.declared.part.RegistryPart.{RegistryPart}
 use Rattle.folds.specs.declared.part.CredentialPart.{CredentialPart}

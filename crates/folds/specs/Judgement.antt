@@ -18,6 +18,7 @@ use Rattle.registry_error.specs.declared.error.Answer.the-variants.{Rejected}
 use Rattle.registry_error.specs.Answers.{accepts}
 use Rattle.registry_inception.specs.InceptionFolds as N
 use Rattle.registry.specs.RegistryFolds as G
+use Rattle.registry_issue.specs.IssueFolds as I
 use Rattle.registry_credential_state.specs.CredentialFolds as W
 use Rattle.registry_credential.specs.Status.{statusOf}
 use Rattle.folds.specs.declared.part.Finding.{Finding}
@@ -55,11 +56,11 @@ wellView g =
 unfoldable pub rotateOf : Registry → List ℕ → N.Outcome
 rotateOf g s = cond (wellView g) (G.ingestDecoded g (decodeOf s)) (record { answer = Rejected Malformed; state = g })
 
-unfoldable pub issueOf : Registry → List ℕ → W.Outcome
+unfoldable pub issueOf : Registry → List ℕ → I.Outcome
 issueOf g s =
-    cond (wellView g) (W.inceptDecoded g (decodeOf s)) (record { answer = Rejected Malformed; state = noCredential })
+    cond (wellView g) (I.inceptDecoded g (decodeOf s)) (record { answer = Rejected Malformed; state = noCredential })
 
-unfoldable pub revokeOf : Registry → CredentialState → List ℕ → W.Outcome
+unfoldable pub revokeOf : Registry → CredentialState → List ℕ → I.Outcome
 revokeOf g w s =
     cond (wellView g && wellCredential w) (W.ingestDecoded g w (decodeOf s)) (record { answer = Rejected Malformed; state = w })
 
@@ -69,7 +70,7 @@ registryAgrees expected next held o =
     record
     { agrees = sameReport (answerReport (o .answer)) expected && sameList (registryBytes (o .state)) (cond (accepts (o .answer)) next held); read = true }
 
-unfoldable pub credentialAgrees : List ℕ → List ℕ → List ℕ → W.Outcome → Finding
+unfoldable pub credentialAgrees : List ℕ → List ℕ → List ℕ → I.Outcome → Finding
 credentialAgrees expected next held o =
     record
     { agrees = sameReport (answerReport (o .answer)) expected && sameList (credentialBytes (o .state)) (cond (accepts (o .answer)) next held); read = true }

@@ -24,6 +24,7 @@ use Rattle.registry_authentication.specs.Backers.{standsAt, enoughReceipts, bac
 use Rattle.registry_authentication.specs.Issuers.{authenticateIssuer}
 use Rattle.registry_inception.specs.InceptionFolds as N
 use Rattle.registry.specs.RegistryFolds as R
+use Rattle.registry_issue.specs.IssueFolds as I
 use Rattle.registry_credential_state.specs.CredentialFolds as C
 use Rattle.registry_laws.specs.ReadingRules.{soundRegistry}
 use Rattle.ledger_step.specs.Tables.{has, distinct, find, put}
@@ -42,15 +43,15 @@ unfolding goodMessage all goodSaid goodIdentifier goodSn goodToad goodPrefixes i
 rotations = record { good-first = refl; good-second = refl; whole = record { reads = refl; registries = refl; rows = refl }; first = refl; second = refl }
 
 pub pairs : Computed onePlain issued revoked (0 ∷ 0 ∷ []) (5 ∷ 0 ∷ [])
-unfolding goodMessage all goodSaid goodIdentifier goodSn isMatter isBasic isSaid isIdentifier goodSignature goodSource goodAnchors goodAnchor numbersBy effect sound holds distinct has soundRegistry checkMembers check first exactOk noBackers hasCode find put eqMatter C.inceptMessage C.issAnswer C.ingestMessage C.ingestAnswer C.revAnswer C.transition firstOf acceptIf nextSn value snOf authenticateIssuer wellCredential
+unfolding goodMessage all goodSaid goodIdentifier goodSn isMatter isBasic isSaid isIdentifier goodSignature goodSource goodAnchors goodAnchor numbersBy effect sound holds distinct has soundRegistry checkMembers check first exactOk noBackers hasCode find put eqMatter I.inceptMessage I.issAnswer C.ingestMessage C.ingestAnswer C.revAnswer C.transition firstOf acceptIf nextSn value snOf authenticateIssuer wellCredential
 pairs = record { good-first = refl; good-second = refl; whole = record { reads = refl; registries = refl; rows = refl }; first = refl; second = refl }
 
 pub inceptions : Computed empty inception issued (0 ∷ 0 ∷ []) (2 ∷ 0 ∷ [])
-unfolding goodMessage all goodSaid goodIdentifier goodSn goodToad goodConfigs goodPrefixes isConfig isMatter isBasic isSaid isIdentifier goodSignature goodSource goodAnchors goodAnchor numbersBy effect sound holds distinct has soundRegistry checkMembers check first exactOk noBackers hasCode find put eqMatter N.inceptMessage N.inceptAnswer N.vcpAnswer N.thresholdFits enoughReceipts receipts count C.inceptMessage C.issAnswer firstOf acceptIf value authenticateIssuer
+unfolding goodMessage all goodSaid goodIdentifier goodSn goodToad goodConfigs goodPrefixes isConfig isMatter isBasic isSaid isIdentifier goodSignature goodSource goodAnchors goodAnchor numbersBy effect sound holds distinct has soundRegistry checkMembers check first exactOk noBackers hasCode find put eqMatter N.inceptMessage N.inceptAnswer N.vcpAnswer N.thresholdFits enoughReceipts receipts count I.inceptMessage I.issAnswer firstOf acceptIf value authenticateIssuer
 inceptions = record { good-first = refl; good-second = refl; whole = record { reads = refl; registries = refl; rows = refl }; first = refl; second = refl }
 
 pub heads : Computed oneBacked issuedByHead firstRotation (0 ∷ 0 ∷ []) (0 ∷ 23 ∷ [])
-unfolding goodMessage all goodSaid goodIdentifier goodSn goodToad goodPrefixes isMatter isBasic isSaid isIdentifier goodSignature goodSource goodAnchors goodAnchor numbersBy effect sound holds distinct has soundRegistry checkMembers check first breaks hasMember exactOk noBackers hasCode find put eqMatter R.ingestMessage R.vrtAnswer firstOf acceptIf nextSn value snOf authenticateIssuer R.vrtBackers checkDeltas checkCurrent updatedMembers survivors N.thresholdFits enoughReceipts receipts hasGood count C.inceptMessage C.bisAnswer authenticateBacker standsAt backedBy wellCredential
+unfolding goodMessage all goodSaid goodIdentifier goodSn goodToad goodPrefixes isMatter isBasic isSaid isIdentifier goodSignature goodSource goodAnchors goodAnchor numbersBy effect sound holds distinct has soundRegistry checkMembers check first breaks hasMember exactOk noBackers hasCode find put eqMatter R.ingestMessage R.vrtAnswer firstOf acceptIf nextSn value snOf authenticateIssuer R.vrtBackers checkDeltas checkCurrent updatedMembers survivors N.thresholdFits enoughReceipts receipts hasGood count I.inceptMessage I.bisAnswer authenticateBacker standsAt backedBy wellCredential
 heads = record { good-first = refl; good-second = refl; whole = record { reads = refl; registries = refl; rows = refl }; first = refl; second = refl }
 
 -- of 255 rows, by the laws of that ledger
@@ -68,9 +69,9 @@ unfolding sound holds all distinct has eqMatter soundRegistry checkMembers check
 met-whole = record { reads = refl; registries = refl; rows = refl }
 
 pub met-one : numbersBy plainAndBacked (asked firstRotation ∷ asked secondRotation ∷ asked issued ∷ asked revoked ∷ asked absent ∷ nothing Malformed ∷ []) ≡ 0 ∷ 0 ∷ 0 ∷ 0 ∷ 5 ∷ 1 ∷ []
-unfolding numbersBy effect sound holds all distinct has soundRegistry checkMembers check first breaks hasMember exactOk noBackers hasCode find put eqMatter isSaid R.ingestMessage R.vrtAnswer firstOf acceptIf nextSn value snOf authenticateIssuer R.vrtBackers checkDeltas checkCurrent updatedMembers survivors N.thresholdFits enoughReceipts receipts hasGood count C.inceptMessage C.issAnswer C.ingestMessage C.ingestAnswer C.revAnswer C.transition wellCredential
+unfolding numbersBy effect sound holds all distinct has soundRegistry checkMembers check first breaks hasMember exactOk noBackers hasCode find put eqMatter isSaid R.ingestMessage R.vrtAnswer firstOf acceptIf nextSn value snOf authenticateIssuer R.vrtBackers checkDeltas checkCurrent updatedMembers survivors N.thresholdFits enoughReceipts receipts hasGood count I.inceptMessage I.issAnswer C.ingestMessage C.ingestAnswer C.revAnswer C.transition wellCredential
 met-one = refl
 
 pub met-other : numbersBy plainAndBacked (nothing Malformed ∷ asked issued ∷ asked firstRotation ∷ asked absent ∷ asked revoked ∷ asked secondRotation ∷ []) ≡ 1 ∷ 0 ∷ 0 ∷ 5 ∷ 0 ∷ 0 ∷ []
-unfolding numbersBy effect sound holds all distinct has soundRegistry checkMembers check first breaks hasMember exactOk noBackers hasCode find put eqMatter isSaid R.ingestMessage R.vrtAnswer firstOf acceptIf nextSn value snOf authenticateIssuer R.vrtBackers checkDeltas checkCurrent updatedMembers survivors N.thresholdFits enoughReceipts receipts hasGood count C.inceptMessage C.issAnswer C.ingestMessage C.ingestAnswer C.revAnswer C.transition wellCredential
+unfolding numbersBy effect sound holds all distinct has soundRegistry checkMembers check first breaks hasMember exactOk noBackers hasCode find put eqMatter isSaid R.ingestMessage R.vrtAnswer firstOf acceptIf nextSn value snOf authenticateIssuer R.vrtBackers checkDeltas checkCurrent updatedMembers survivors N.thresholdFits enoughReceipts receipts hasGood count I.inceptMessage I.issAnswer C.ingestMessage C.ingestAnswer C.revAnswer C.transition wellCredential
 met-other = refl

@@ -23,7 +23,7 @@ use Rattle.registry_state.specs.declared.state.CredentialState.{CredentialState
 use Rattle.registry_error.specs.Answers.{acceptIf, firstOf}
 use Rattle.registry_error.specs.declared.error.RegistryRejection.the-variants.{NoRoom}
 use Rattle.registry_authentication.specs.Issuers.{authenticateIssuer}
-use Rattle.registry_credential_state.specs.CredentialFolds as C
+use Rattle.registry_issue.specs.IssueFolds as I
 use Rattle.registry_laws.specs.ReadingRules.{soundRegistry}
 use Rattle.registry_laws.specs.Pairs.{Pair, keyOf}
 use Rattle.ledger_step.specs.Tables.{has, distinct, find}
@@ -91,7 +91,7 @@ abbrev row : ℕ → ℕ → CredentialState
 row c x = record { registry = plainId; credential = said c; sn = snZero; head = said x }
 
 takes : (c x : ℕ) → effect oneLeft (asked (issue (said c) (said x))) ≡ newRow (row c x)
-unfolding effect find eqMatter C.inceptMessage C.issAnswer firstOf acceptIf noBackers hasCode authenticateIssuer value
+unfolding effect find eqMatter I.inceptMessage I.issAnswer firstOf acceptIf noBackers hasCode authenticateIssuer value
 takes c x = rw (reads, absent 255 c, eq-eqb c c refl, eq-eqb x x refl)
 
 -- and so keeps the rules
@@ -106,7 +106,7 @@ filled-reads c x =
     whole (filled c x) (keeps-changed oneLeft q (newRow (row c x)) keeps n)
 
 full : (c x d y : ℕ) → eqb c d ≡ false → effect (filled c x) (asked (issue (said d) (said y))) ≡ refuse NoRoom
-unfolding effect find eqMatter C.inceptMessage C.issAnswer firstOf acceptIf noBackers hasCode authenticateIssuer value
+unfolding effect find eqMatter I.inceptMessage I.issAnswer firstOf acceptIf noBackers hasCode authenticateIssuer value
 full c x d y h =
     rw (filled-reads c x, find-append keyOf eqPair (record { registry = plainId; credential = said d }) (heldRows 255) (row c x), absent 255 d, h, eq-eqb d d refl, eq-eqb y y refl)
 

@@ -23,6 +23,7 @@ use Rattle.registry_error.specs.declared.error.Answer.the-variants.{Accepted, R
 use Rattle.registry_error.specs.declared.error.RegistryRejection.the-variants.{Malformed, NoRoom}
 use Rattle.registry_inception.specs.InceptionFolds as N
 use Rattle.registry.specs.RegistryFolds as R
+use Rattle.registry_issue.specs.IssueFolds as I
 use Rattle.registry_credential_state.specs.CredentialFolds as C
 use Rattle.registry_laws.specs.Pairs.{Pair, pairIn, keyOf}
 use Rattle.ledger_step.specs.Ledgers.{Ledger, heldOf, idOf, eqPair, registryAt, rowAt, keepsLayout, sound}
@@ -75,8 +76,8 @@ module _ (s : List ℕ) (m : Message) (e : decodeOf s ≡ decoded m) where
   unfolding R.ingestOf
   rotation-read g h = rw (h, e)
 
-  issue-read : (g : RegistryState) → wellRegistry g ≡ true → C.inceptOf g s ≡ C.inceptMessage (viewRegistry g) m
-  unfolding C.inceptOf
+  issue-read : (g : RegistryState) → wellRegistry g ≡ true → I.inceptOf g s ≡ I.inceptMessage (viewRegistry g) m
+  unfolding I.inceptOf
   issue-read g h = rw (h, e)
 
   revocation-read : (g : RegistryState) (w : CredentialState) → wellRegistry g ≡ true → wellCredential w ≡ true → C.ingestOf g w s ≡ C.ingestMessage (viewRegistry g) w m
@@ -124,7 +125,7 @@ module _ (s : List ℕ) (g : RegistryState) (w : CredentialState) where
   issue-is m n e false u h = refl
   issue-is m n e true true h = refl
   issue-is m n e true false h =
-      rw (issue-read s m e g (h refl)) (then-room (C.inceptMessage (viewRegistry g) m .answer) (ltb n 256) (newRow (C.inceptMessage (viewRegistry g) m .state)))
+      rw (issue-read s m e g (h refl)) (then-room (I.inceptMessage (viewRegistry g) m .answer) (ltb n 256) (newRow (I.inceptMessage (viewRegistry g) m .state)))
 
   -- a rev or brv
   revocation-is : (k : Pair) (m : Message) → decodeOf s ≡ decoded m → (t u : Bool) → (t ≡ true → wellRegistry g ≡ true) → (u ≡ true → wellCredential w ≡ true) → revocationNamed s k t g u w ≡ revocationEffect k m (cond t (some (heldOf g)) none) (cond u (some w) none)

@@ -15,6 +15,7 @@ use Rattle.registry_error.specs.declared.error.Answer.the-variants.{Accepted, R
 use Rattle.registry_error.specs.declared.error.RegistryRejection.the-variants.{Malformed, NoRoom}
 use Rattle.registry_inception.specs.InceptionFolds as N
 use Rattle.registry.specs.RegistryFolds as R
+use Rattle.registry_issue.specs.IssueFolds as I
 use Rattle.registry_credential_state.specs.CredentialFolds as C
 use Rattle.registry_laws.specs.Pairs.{Pair}
 use Rattle.ledger_step.specs.Ledgers.{Held, Ledger, registryAt, rowAt, sound}
@@ -65,8 +66,8 @@ module _ (l : Ledger) (k : Keeps l) where
   issue-fits p m (some g) none e =
       let q = namedOf (issue p m) in
       let size = eqb-true (l .rowSlots) 256 (k .row-slots) in
-      after-fits l q (C.inceptMessage (g .state) m .answer) (withRoom (l .rowCount) 256 (newRow (C.inceptMessage (g .state) m .state)))
-      (room-fits l q (l .rowCount) 256 (newRow (C.inceptMessage (g .state) m .state)) (λ h. (e, omega (arith, h, size))))
+      after-fits l q (I.inceptMessage (g .state) m .answer) (withRoom (l .rowCount) 256 (newRow (I.inceptMessage (g .state) m .state)))
+      (room-fits l q (l .rowCount) 256 (newRow (I.inceptMessage (g .state) m .state)) (λ h. (e, omega (arith, h, size))))
 
   revocation-fits : (p : Pair) (m : Message) (o : Option Held) (r : Option CredentialState) → Fits l (namedOf (revocation p m)) (revocationEffect p m o r)
   revocation-fits p m none r = tt

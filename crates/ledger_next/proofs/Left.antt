@@ -20,8 +20,9 @@ use Rattle.registry_error.proofs.AnswerLaws.{passed}
 use Rattle.registry_inception.specs.InceptionFolds as N
 use Rattle.registry.specs.RegistryFolds as R
 use Rattle.registry_inception.specs.declared.registry.RegistryOutcome.{RegistryOutcome}
+use Rattle.registry_issue.specs.IssueFolds as I
 use Rattle.registry_credential_state.specs.CredentialFolds as C
-use Rattle.registry_credential_state.specs.declared.credential_state.CredentialOutcome.{CredentialOutcome}
+use Rattle.registry_issue.specs.declared.credential_state.CredentialOutcome.{CredentialOutcome}
 use Rattle.registry_laws.specs.Pairs.{Pair}
 use Rattle.registry_laws.proofs.Chains.{all-accept}
 use Rattle.ledger_step.specs.Ledgers.{heldOf}
@@ -80,14 +81,14 @@ module _ (g : RegistryState) (m : ℕ) (w : CredentialState) (n : ℕ) where
         leaves-change (rotationAnswer held (R.ingestOf g s .answer)) (setRegistry id (R.ingestOf g s .state)) _ (ap accepts (sym q) ∙ h)
         (held-now (o .state) (R.ingestOf g s .state) (ap (λ (x : N.Outcome). x .state) v) (within ok), ap (λ (z : Answer). record { answer = z; registry = o .state; «registry_count» = m; row = w; «row_count» = n }) (accepted a h))
 
-    pub new-row : (listed : Bool) (o : CredentialOutcome) → C.viewOutcome o ≡ C.inceptOf g s → a ≡ issueAnswer held listed (o .answer) n → Leaves (issueNamed s held g listed n) g m w n (record { answer = a; registry = g; «registry_count» = m; row = o .state; «row_count» = n + 1 })
+    pub new-row : (listed : Bool) (o : CredentialOutcome) → I.viewOutcome o ≡ I.inceptOf g s → a ≡ issueAnswer held listed (o .answer) n → Leaves (issueNamed s held g listed n) g m w n (record { answer = a; registry = g; «registry_count» = m; row = o .state; «row_count» = n + 1 })
     new-row listed o v e =
-        let q : a ≡ issueAnswer held listed (C.inceptOf g s .answer) n = e ∙ ap (λ (x : C.Outcome). issueAnswer held listed (x .answer) n) v in
-        leaves-change (issueAnswer held listed (C.inceptOf g s .answer) n) (newRow (C.inceptOf g s .state)) _ (ap accepts (sym q) ∙ h)
+        let q : a ≡ issueAnswer held listed (I.inceptOf g s .answer) n = e ∙ ap (λ (x : I.Outcome). issueAnswer held listed (x .answer) n) v in
+        leaves-change (issueAnswer held listed (I.inceptOf g s .answer) n) (newRow (I.inceptOf g s .state)) _ (ap accepts (sym q) ∙ h)
         (λ i. record { answer = accepted a h i; registry = g; «registry_count» = m; row = v i .state; «row_count» = n + 1 })
 
-    pub next-row : (k : Pair) (listed : Bool) (o : CredentialOutcome) → C.viewOutcome o ≡ C.ingestOf g w s → a ≡ revocationAnswer held listed (o .answer) → Leaves (revocationNamed s k held g listed w) g m w n (record { answer = a; registry = g; «registry_count» = m; row = o .state; «row_count» = n })
+    pub next-row : (k : Pair) (listed : Bool) (o : CredentialOutcome) → I.viewOutcome o ≡ C.ingestOf g w s → a ≡ revocationAnswer held listed (o .answer) → Leaves (revocationNamed s k held g listed w) g m w n (record { answer = a; registry = g; «registry_count» = m; row = o .state; «row_count» = n })
     next-row k listed o v e =
-        let q : a ≡ revocationAnswer held listed (C.ingestOf g w s .answer) = e ∙ ap (λ (x : C.Outcome). revocationAnswer held listed (x .answer)) v in
+        let q : a ≡ revocationAnswer held listed (C.ingestOf g w s .answer) = e ∙ ap (λ (x : I.Outcome). revocationAnswer held listed (x .answer)) v in
         leaves-change (revocationAnswer held listed (C.ingestOf g w s .answer)) (setRow k (C.ingestOf g w s .state)) _ (ap accepts (sym q) ∙ h)
         (λ i. record { answer = accepted a h i; registry = g; «registry_count» = m; row = v i .state; «row_count» = n })

@@ -11,6 +11,7 @@ use Rattle.registry_error.specs.declared.error.Answer.{Answer}
 use Rattle.registry_error.specs.declared.error.Answer.the-variants.{Accepted, Rejected}
 use Rattle.registry_inception.specs.InceptionFolds as N
 use Rattle.registry.specs.RegistryFolds as R
+use Rattle.registry_issue.specs.IssueFolds as I
 use Rattle.registry_credential_state.specs.CredentialFolds as C
 use Rattle.registry_laws.specs.Pairs.{Pair}
 use Rattle.ledger_step.specs.Ledgers.{heldOf}
@@ -28,7 +29,7 @@ abbrev pub rotationNamed : List ℕ → Said → Bool → RegistryState → Effe
 rotationNamed s id held g = afterFold (rotationAnswer held (R.ingestOf g s .answer)) (setRegistry id (R.ingestOf g s .state))
 
 abbrev pub issueNamed : List ℕ → Bool → RegistryState → Bool → ℕ → Effect
-issueNamed s held g listed n = afterFold (issueAnswer held listed (C.inceptOf g s .answer) n) (newRow (C.inceptOf g s .state))
+issueNamed s held g listed n = afterFold (issueAnswer held listed (I.inceptOf g s .answer) n) (newRow (I.inceptOf g s .state))
 
 abbrev pub revocationNamed : List ℕ → Pair → Bool → RegistryState → Bool → CredentialState → Effect
 revocationNamed s k held g listed w = afterFold (revocationAnswer held listed (C.ingestOf g w s .answer)) (setRow k (C.ingestOf g w s .state))

@@ -26,6 +26,7 @@ use Rattle.registry_error.specs.declared.error.Answer.the-variants.{Accepted, R
 use Rattle.registry_error.specs.declared.error.RegistryRejection.the-variants.{NoRoom}
 use Rattle.registry_inception.specs.InceptionFolds as N
 use Rattle.registry.specs.RegistryFolds as R
+use Rattle.registry_issue.specs.IssueFolds as I
 use Rattle.registry_credential_state.specs.CredentialFolds as C
 use Rattle.registry_credential_state.specs.CredentialFolds.{saidOf}
 use Rattle.registry_laws.specs.Pairs.{Pair, pairOf, pairIn, keyOf}
@@ -155,10 +156,10 @@ issue-legal : (s : Ledger) (k : Pair) (m : Message) → Read (issue k m) → (o 
 issue-legal s k m r none e w f = tt
 issue-legal s k m r (some g) e (some w) f = tt
 issue-legal s k m r (some g) e none f =
-    after-legal s (issue k m) (C.inceptMessage (g .state) m .answer) (withRoom (s .rowCount) 256 (newRow (C.inceptMessage (g .state) m .state)))
-    (λ h. room-legal s (issue k m) (s .rowCount) 256 (newRow (C.inceptMessage (g .state) m .state))
+    after-legal s (issue k m) (I.inceptMessage (g .state) m .answer) (withRoom (s .rowCount) 256 (newRow (I.inceptMessage (g .state) m .state)))
+    (λ h. room-legal s (issue k m) (s .rowCount) 256 (newRow (I.inceptMessage (g .state) m .state))
     (λ room.
-    let same : keyOf (C.inceptMessage (g .state) m .state) ≡ k = only _ _ (sym (issue-names (g .state) m h .0) ∙ r .0) in
+    let same : keyOf (I.inceptMessage (g .state) m .state) ≡ k = only _ _ (sym (issue-names (g .state) m h .0) ∙ r .0) in
     record
     { message = m; asked = ap (λ (z : Pair). issue z m) (sym same); absent = ap (rowAt s) same ∙ f; home = ap (λ (z : Pair). has eqSaid (z .registry) (idsOf s)) same ∙ held s (k .registry) g e; well = issue-well (g .state) m (r .1) h; low = issue-low (g .state) m h; room = room }))
 

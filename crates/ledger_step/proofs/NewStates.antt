@@ -19,6 +19,7 @@ use Rattle.registry_error.specs.declared.error.RegistryRejection.the-variants.{
 use Rattle.registry_error.proofs.AnswerLaws.{or-second, passed}
 use Rattle.registry_authentication.specs.Issuers.{issuerKind}
 use Rattle.registry_inception.specs.InceptionFolds as N
+use Rattle.registry_issue.specs.IssueFolds as I
 use Rattle.registry_credential_state.specs.CredentialFolds as C
 use Rattle.registry_credential_state.specs.CredentialFolds.{saidOf}
 use Rattle.registry_laws.proofs.Chains.{all-accept}
@@ -39,13 +40,13 @@ unfolding N.inceptMessage N.inceptAnswer
 inception-id m h = rw h (event-id (m .event) m (or-second (issuerKind (m .evidence)) (N.inceptEvent (m .event) m) h))
 
 -- the state of an issue has the letters of its event, where the event names the registry
-issued-well : (id said credential registry : Said) → Lettered (iss said credential registry) → accepts (acceptIf (eqSaid registry id) InconsistentRegistry) ≡ true → wellCredential (C.issued id (iss said credential registry)) ≡ true
+issued-well : (id said credential registry : Said) → Lettered (iss said credential registry) → accepts (acceptIf (eqSaid registry id) InconsistentRegistry) ≡ true → wellCredential (I.issued id (iss said credential registry)) ≡ true
 unfolding wellCredential
 issued-well id said credential registry k h =
     rw (← said-eq registry id (passed (eqSaid registry id) InconsistentRegistry h), k .2, k .1, k .0)
 
-event-well : (g : Registry) (e : Event) (m : Message) → Lettered e → accepts (C.inceptEvent g e m) ≡ true → wellCredential (C.issued (g .id) e) ≡ true
-unfolding C.issAnswer C.bisAnswer
+event-well : (g : Registry) (e : Event) (m : Message) → Lettered e → accepts (I.inceptEvent g e m) ≡ true → wellCredential (I.issued (g .id) e) ≡ true
+unfolding I.issAnswer I.bisAnswer
 event-well g (vcp said issuer toad configs backers) m k h = absurd (false≢true h)
 event-well g (vrt said registry prior sn toad cuts additions) m k h = absurd (false≢true h)
 event-well g (iss said credential registry) m k h = issued-well (g .id) said credential registry k (all-accept _ h .0)
@@ -53,11 +54,11 @@ event-well g (rev said credential registry prior) m k h = absurd (false≢true h
 event-well g (bis said credential registry seal) m k h = issued-well (g .id) said credential registry k (all-accept _ h .0)
 event-well g (brv said credential prior seal) m k h = absurd (false≢true h)
 
-pub issue-well : (g : Registry) (m : Message) → Lettered (m .event) → accepts (C.inceptMessage g m .answer) ≡ true → wellCredential (C.inceptMessage g m .state) ≡ true
-unfolding C.inceptMessage
+pub issue-well : (g : Registry) (m : Message) → Lettered (m .event) → accepts (I.inceptMessage g m .answer) ≡ true → wellCredential (I.inceptMessage g m .state) ≡ true
+unfolding I.inceptMessage
 issue-well g m k h = rw h (event-well g (m .event) m k h)
 
-pub issue-low : (g : Registry) (m : Message) → accepts (C.inceptMessage g m .answer) ≡ true → zeroOrOne (C.inceptMessage g m .state) ≡ true
+pub issue-low : (g : Registry) (m : Message) → accepts (I.inceptMessage g m .answer) ≡ true → zeroOrOne (I.inceptMessage g m .state) ≡ true
 unfolding value
 issue-low g m h = rw (issue-names g m h .1)
 

@@ -9,6 +9,7 @@ use Rattle.registry_state.specs.States.{Registry}
 use Rattle.registry_state.specs.declared.state.CredentialState.{CredentialState}
 use Rattle.registry_wire.specs.Attempts.{Message, Evidence}
 use Rattle.registry_wire.specs.Attempts.Evidence.{backer}
+use Rattle.registry_issue.specs.IssueFolds as I
 use Rattle.registry_credential_state.specs.CredentialFolds as C
 use Rattle.registry_laws.specs.States.{OneRegistry}
 use Rattle.registry_laws.proofs.UsedFields.{issue-reads, revocation-reads}
@@ -18,8 +19,8 @@ other-evidence : (e : Evidence) → isHead e ≡ false → e ≢ backer
 other-evidence e h q = true≢false (rw (← h, q))
 
 module _ (g h : Registry) (one : OneRegistry g h) (m : Message) where
-  issue-by : (e : Event) → m .event ≡ e → takesHead e (m .evidence) ≡ false → C.inceptMessage g m ≡ C.inceptMessage h m
-  unfolding C.inceptMessage C.issAnswer
+  issue-by : (e : Event) → m .event ≡ e → takesHead e (m .evidence) ≡ false → I.inceptMessage g m ≡ I.inceptMessage h m
+  unfolding I.inceptMessage I.issAnswer
   issue-by (vcp said prefix toad configs backers) q k = rw q
   issue-by (vrt said registry prior sn toad cuts additions) q k = rw q
   issue-by (iss said credential registry) q k = rw (q, one .id, one .configs, one .issuer)
@@ -27,7 +28,7 @@ module _ (g h : Registry) (one : OneRegistry g h) (m : Message) where
   issue-by (bis said credential registry seal) q k = issue-reads g h one m (other-evidence (m .evidence) k)
   issue-by (brv said credential prior seal) q k = rw q
 
-  pub issue-fixed : takesHead (m .event) (m .evidence) ≡ false → C.inceptMessage g m ≡ C.inceptMessage h m
+  pub issue-fixed : takesHead (m .event) (m .evidence) ≡ false → I.inceptMessage g m ≡ I.inceptMessage h m
   issue-fixed k = issue-by (m .event) refl k
 
   revocation-by : (w : CredentialState) (e : Event) → m .event ≡ e → takesHead e (m .evidence) ≡ false → C.ingestMessage g w m ≡ C.ingestMessage h w m

@@ -18,6 +18,7 @@ use Rattle.registry_error.specs.declared.error.RegistryRejection.{RegistryRejec
 use Rattle.registry_error.specs.declared.error.RegistryRejection.the-variants.{Malformed, MissingRegistry, DuplicateInception, AlreadyIssued, MissingCredentialState, InconsistentRegistry, NoRoom}
 use Rattle.registry_inception.specs.InceptionFolds as N
 use Rattle.registry.specs.RegistryFolds as R
+use Rattle.registry_issue.specs.IssueFolds as I
 use Rattle.registry_credential_state.specs.CredentialFolds as C
 use Rattle.registry_laws.specs.Pairs.{Pair, pairIn, keyOf}
 use Rattle.ledger_step.specs.Tables.{put}
@@ -83,7 +84,7 @@ rotationEffect id m (some g) = afterFold (R.ingestMessage (g .state) m .answer) 
 -- iss, bis: 2, 4, the fold, 29; the number is how many rows are held
 abbrev pub issueEffect : Message → ℕ → Option Held → Option CredentialState → Effect
 issueEffect m n none o = refuse MissingRegistry
-issueEffect m n (some g) none = afterFold (C.inceptMessage (g .state) m .answer) (withRoom n 256 (newRow (C.inceptMessage (g .state) m .state)))
+issueEffect m n (some g) none = afterFold (I.inceptMessage (g .state) m .answer) (withRoom n 256 (newRow (I.inceptMessage (g .state) m .state)))
 issueEffect m n (some g) (some w) = refuse AlreadyIssued
 
 -- rev, brv: 2, 5, the fold

@@ -1,7 +1,7 @@
--- The folds of a credential over decoded attempts.
---     incept-kept, ingest-kept        the outcome of an answer and the state that stands beside it
---     incept-decoded, ingest-decoded  the outcome of bytes that were decoded
---     incept-malformed, ingest-malformed   the refusal 1
+-- The fold of a credential's revocation over decoded attempts.
+--     ingest-kept        the outcome of an answer and the state that stands beside it
+--     ingest-decoded     the outcome of bytes that were decoded
+--     ingest-malformed   the refusal 1
 use Prim.Native.Nat.{ℕ}
 use mathlib.Core.Path.{_≡_, refl}
 use mathlib.Core.List.{List}
@@ -10,7 +10,7 @@ use Rattle.events_tel.specs.TelEvents.{eventAs}
 use Rattle.events_tel.specs.declared.tel.Kind.{Kind}
 use Rattle.events_tel.specs.declared.tel.Kind.the-variants.{Vcp, Vrt, Iss, Rev, Bis, Brv}
 use Rattle.events_tel.specs.declared.tel.TelEvent.{TelEvent}
-use Rattle.registry_state.specs.States.{Registry, viewRegistry, wellRegistry, wellCredential, noCredential}
+use Rattle.registry_state.specs.States.{Registry, viewRegistry, wellRegistry, wellCredential}
 use Rattle.registry_state.specs.declared.state.RegistryState.{RegistryState}
 use Rattle.registry_state.specs.declared.state.CredentialState.{CredentialState}
 use Rattle.registry_wire.specs.Attempts.{Message, viewAttempt, viewDecoded, decodeOf}
@@ -20,7 +20,7 @@ use Rattle.registry_error.specs.Answers.{accepts}
 use Rattle.registry_error.specs.declared.error.Answer.{Answer}
 use Rattle.registry_error.specs.declared.error.Answer.the-variants.{Rejected}
 use Rattle.registry_error.specs.declared.error.RegistryRejection.the-variants.{Malformed}
-use Rattle.registry_credential_state.specs.CredentialFolds.{inceptEvent, issued, inceptMessage, inceptDecoded, inceptOf, ingestAnswer, saidOf, revoked, ingestMessage, ingestDecoded, ingestOf}
+use Rattle.registry_credential_state.specs.CredentialFolds.{ingestAnswer, saidOf, revoked, ingestMessage, ingestDecoded, ingestOf}
 
 -- every kind has its digest in the same field
 pub event-said : (k : Kind) (e : TelEvent) → saidOf (eventAs k e) ≡ e .said
@@ -31,21 +31,9 @@ event-said Rev e = refl
 event-said Bis e = refl
 event-said Brv e = refl
 
-pub incept-kept : (g : Registry) (m : Message) (x : Answer) (w : CredentialState) → x ≡ inceptEvent g (m .event) m → w ≡ cond (accepts x) (issued (g .id) (m .event)) noCredential → record { answer = x; state = w } ≡ inceptMessage g m
-unfolding inceptMessage
-incept-kept g m x w e f = rw (f, e)
-
 pub ingest-kept : (g : Registry) (w : CredentialState) (m : Message) (x : Answer) (v : CredentialState) → x ≡ ingestAnswer g w m → v ≡ cond (accepts x) (revoked w (m .event)) w → record { answer = x; state = v } ≡ ingestMessage g w m
 unfolding ingestMessage
 ingest-kept g w m x v e f = rw (f, e)
-
-pub incept-decoded : (g : RegistryState) (s : List ℕ) (d : DecodedAttempt) → viewDecoded s d ≡ decodeOf s → wellRegistry g ≡ true → d .ok ≡ true → inceptOf g s ≡ inceptMessage (viewRegistry g) (viewAttempt s (d .attempt))
-unfolding inceptOf
-incept-decoded g s d e w ok = judged-decoded (inceptDecoded (viewRegistry g)) _ refl s d e (wellRegistry g) w ok
-
-pub incept-malformed : (g : RegistryState) (s : List ℕ) (d : DecodedAttempt) → viewDecoded s d ≡ decodeOf s → (wellRegistry g && d .ok) ≡ false → inceptOf g s ≡ record { answer = Rejected Malformed; state = noCredential }
-unfolding inceptOf
-incept-malformed g s d e h = judged-malformed (inceptDecoded (viewRegistry g)) _ refl s d e (wellRegistry g) h
 
 pub ingest-decoded : (g : RegistryState) (w : CredentialState) (s : List ℕ) (d : DecodedAttempt) → viewDecoded s d ≡ decodeOf s → (wellRegistry g && wellCredential w) ≡ true → d .ok ≡ true → ingestOf g w s ≡ ingestMessage (viewRegistry g) w (viewAttempt s (d .attempt))
 unfolding ingestOf

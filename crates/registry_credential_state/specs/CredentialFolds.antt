@@ -1,79 +1,25 @@
--- The folds of a credential: its issue and its revocation (docs/RULES.md, "Orders", "Next states").
+-- The fold of a credential's revocation (docs/RULES.md, "Orders", "Next states").
 use Prim.Native.Nat.{ℕ}
 use mathlib.Core.List.{List, [], _∷_}
 use mathlib.Core.Bool.{not, cond, _&&_}
 use Rattle.cesr.specs.Primitives.{eqSaid}
 use Rattle.cesr.specs.declared.primitive.Said.{Said}
-use Rattle.events_tel.specs.TelEvents.{Event, snZero, snOne}
+use Rattle.events_tel.specs.TelEvents.{Event, snOne}
 use Rattle.events_tel.specs.TelEvents.Event.{vcp, vrt, iss, rev, bis, brv}
 use Rattle.events.specs.declared.seal.Seal.{Seal}
-use Rattle.registry_state.specs.States.{Registry, viewRegistry, wellRegistry, wellCredential, noCredential}
+use Rattle.registry_state.specs.States.{Registry, viewRegistry, wellRegistry, wellCredential}
 use Rattle.registry_state.specs.declared.state.RegistryState.{RegistryState}
 use Rattle.registry_state.specs.declared.state.CredentialState.{CredentialState}
 use Rattle.registry_wire.specs.Attempts.{Message, Decoded, decodeOf}
 use Rattle.registry_wire.specs.Attempts.Decoded.{malformed, decoded}
-use Rattle.registry_error.specs.declared.error.RegistryRejection.the-variants.{Malformed, NotCredentialInception, NotCredentialTransition, InconsistentRegistry, SimpleEventOnBackerRegistry, BackedEventOnBackerlessRegistry, PriorDigestMismatch, InconsistentCredential}
+use Rattle.registry_error.specs.declared.error.RegistryRejection.the-variants.{Malformed, NotCredentialTransition, InconsistentRegistry, SimpleEventOnBackerRegistry, BackedEventOnBackerlessRegistry, PriorDigestMismatch, InconsistentCredential}
 use Rattle.registry_error.specs.declared.error.Answer.{Answer}
 use Rattle.registry_error.specs.declared.error.Answer.the-variants.{Rejected}
 use Rattle.registry_error.specs.Answers.{accepts, acceptIf, orElse, firstOf}
 use Rattle.registry_authentication.specs.Issuers.{anchored, authenticateIssuer}
 use Rattle.registry_authentication.specs.Backers.{isBackerless, namesRegistry, authenticateBacker}
 use Rattle.registry_verification.specs.Sequence.{nextSn}
-use Rattle.registry_credential_state.specs.declared.credential_state.CredentialOutcome.{CredentialOutcome}
-
--- an answer, and the state behind it
-pub record Outcome : Type 0 where
-  pub answer : Answer
-  pub state : CredentialState
-
--- an iss after 8: 10, 12, 18 to 21
-unfoldable pub issAnswer : Registry → Said → Said → Said → Message → Answer
-issAnswer g said credential registry m =
-    firstOf
-    (acceptIf (eqSaid registry (g .id)) InconsistentRegistry
-    ∷ acceptIf (isBackerless g) SimpleEventOnBackerRegistry
-    ∷ authenticateIssuer (g .issuer) credential snZero said m
-    ∷ [])
-
--- a bis after 8: 10, 13, 20, 21, then 22 to 27 of its authority
-unfoldable pub bisAnswer : Registry → Said → Said → Said → Seal → Message → Answer
-bisAnswer g said credential registry seal m =
-    firstOf
-    (acceptIf (eqSaid registry (g .id)) InconsistentRegistry
-    ∷ acceptIf (not (isBackerless g)) BackedEventOnBackerlessRegistry
-    ∷ anchored (g .issuer) credential snZero said (m .source) (m .anchor)
-    ∷ authenticateBacker g seal (m .evidence) (m .signatures)
-    ∷ [])
-
--- 8: another kind
-abbrev pub inceptEvent : Registry → Event → Message → Answer
-inceptEvent g (vcp said issuer toad configs backers) m = Rejected NotCredentialInception
-inceptEvent g (vrt said registry prior sn toad cuts additions) m = Rejected NotCredentialInception
-inceptEvent g (iss said credential registry) m = issAnswer g said credential registry m
-inceptEvent g (rev said credential registry prior) m = Rejected NotCredentialInception
-inceptEvent g (bis said credential registry seal) m = bisAnswer g said credential registry seal m
-inceptEvent g (brv said credential prior seal) m = Rejected NotCredentialInception
-
--- the state that an issue under a registry leaves
-abbrev pub issued : Said → Event → CredentialState
-issued id (vcp said issuer toad configs backers) = noCredential
-issued id (vrt said registry prior sn toad cuts additions) = noCredential
-issued id (iss said credential registry) = record { registry = id; credential = credential; sn = snZero; head = said }
-issued id (rev said credential registry prior) = noCredential
-issued id (bis said credential registry seal) = record { registry = id; credential = credential; sn = snZero; head = said }
-issued id (brv said credential prior seal) = noCredential
-
-unfoldable pub inceptMessage : Registry → Message → Outcome
-inceptMessage g m =
-    record { answer = inceptEvent g (m .event) m; state = cond (accepts (inceptEvent g (m .event) m)) (issued (g .id) (m .event)) noCredential }
-
-abbrev pub inceptDecoded : Registry → Decoded → Outcome
-inceptDecoded g malformed = record { answer = Rejected Malformed; state = noCredential }
-inceptDecoded g (decoded m) = inceptMessage g m
-
--- 1 before everything, of the state that is handed in too
-unfoldable pub inceptOf : RegistryState → List ℕ → Outcome
-inceptOf g s = cond (wellRegistry g) (inceptDecoded (viewRegistry g) (decodeOf s)) (record { answer = Rejected Malformed; state = noCredential })
+use Rattle.registry_issue.specs.IssueFolds.{Outcome}
 
 -- what is left of a rev or brv: 28, 15 to 17
 unfoldable pub transition : CredentialState → Said → Said → Answer
@@ -143,7 +89,3 @@ ingestDecoded g w (decoded m) = ingestMessage g w m
 unfoldable pub ingestOf : RegistryState → CredentialState → List ℕ → Outcome
 ingestOf g w s =
     cond (wellRegistry g && wellCredential w) (ingestDecoded (viewRegistry g) w (decodeOf s)) (record { answer = Rejected Malformed; state = w })
-
--- what the code's struct stands for
-abbrev pub viewOutcome : CredentialOutcome → Outcome
-viewOutcome r = record { answer = r .answer; state = r .state }

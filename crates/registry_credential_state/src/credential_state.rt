@@ -1,8 +1,7 @@
-// The folds of a credential: its issue and its revocation (docs/RULES.md, "Orders", "Next states").
+// The fold of a credential's next event, its revocation (docs/RULES.md, "Orders", "Next states").
 use cesr::number::Sn;
 use cesr::primitive::Said;
 use events_tel::tel::Kind;
-use events_tel::tel::TelEvent;
 use registry_authentication::backer::authenticate_backer;
 use registry_authentication::backer::is_backerless;
 use registry_authentication::backer::names_registry;
@@ -13,6 +12,8 @@ use registry_error::answer::accepts;
 use registry_error::answer::or_else;
 use registry_error::error::Answer;
 use registry_error::error::RegistryRejection;
+use registry_issue::credential_state::CredentialOutcome;
+use registry_issue::credential_state::refused;
 use registry_state::state::CredentialState;
 use registry_state::state::RegistryState;
 use registry_verification::sequence::next_sn;
@@ -21,136 +22,9 @@ ghost use mathlib.Core.Path.{_≡_};
 ghost use Rattle.events_tel.specs.TelEvents.{viewEvent};
 ghost use Rattle.registry_state.specs.States.{viewRegistry};
 ghost use Rattle.registry_wire.specs.Attempts.{viewAttempt};
-ghost use Rattle.registry_error.specs.declared.error.Answer.the-variants.{Rejected};
 ghost use Rattle.registry_authentication.specs.Issuers.{Anchored};
-ghost use Rattle.registry_credential_state.specs.CredentialFolds.{issAnswer, bisAnswer, inceptEvent, issued, inceptMessage, inceptOf, transition, revAnswer, brvAnswer, ingestEvent, ingestMessage, ingestOf, viewOutcome};
-
-// An answer, and the state behind it: the next one, or after a refusal the one that was handed in. Where none is handed in it is blank.
-pub struct CredentialOutcome {
-    pub answer: Answer,
-    pub state: CredentialState,
-}
-
-// An iss's checks behind its kind.
-fn iss_answer(g: RegistryState, a: Attempt, s: &[u8]) -> Answer
-    requires { ⌜ Anchored (now s) a ⌝ }
-    ensures { λ r. ⌜ r ≡ issAnswer (viewRegistry g) (a .event .said) (a .event .credential) (a .event .registry) (viewAttempt (now (s .entry)) a) ⌝ }
-{
-    let zero = Sn { hi: 0, lo: 0 };
-    let routed = accept_if(
-        a.event.registry.same(g.id),
-        RegistryRejection::InconsistentRegistry,
-    );
-    let flavor = accept_if(
-        is_backerless(g),
-        RegistryRejection::SimpleEventOnBackerRegistry,
-    );
-    let anchor = authenticate_issuer(a, s, g.issuer, a.event.credential, zero);
-    or_else(routed, or_else(flavor, or_else(anchor, Answer::Accepted)))
-}
-
-// A bis's checks behind its kind.
-fn bis_answer(g: RegistryState, a: Attempt, s: &[u8]) -> Answer
-    requires { ⌜ Anchored (now s) a ⌝ }
-    ensures { λ r. ⌜ r ≡ bisAnswer (viewRegistry g) (a .event .said) (a .event .credential) (a .event .registry) (a .event .seal) (viewAttempt (now (s .entry)) a) ⌝ }
-{
-    let zero = Sn { hi: 0, lo: 0 };
-    let e = a.event;
-    let seal = e.seal;
-    let routed = accept_if(
-        a.event.registry.same(g.id),
-        RegistryRejection::InconsistentRegistry,
-    );
-    let flavor = accept_if(
-        !is_backerless(g),
-        RegistryRejection::BackedEventOnBackerlessRegistry,
-    );
-    let anchor = message_anchored(a, s, g.issuer, a.event.credential, zero);
-    let backed = authenticate_backer(s, a.signatures, g, seal, a.evidence, a.management);
-    or_else(
-        routed,
-        or_else(flavor, or_else(anchor, or_else(backed, Answer::Accepted))),
-    )
-}
-
-fn incept_event(g: RegistryState, a: Attempt, s: &[u8]) -> Answer
-    requires { ⌜ Anchored (now s) a ⌝ }
-    ensures { λ r. ⌜ r ≡ inceptEvent (viewRegistry g) (viewEvent (a .event)) (viewAttempt (now (s .entry)) a) ⌝ }
-{
-    let e = a.event;
-    let kind = e.kind;
-    match kind {
-        Kind::Vcp => Answer::Rejected(RegistryRejection::NotCredentialInception),
-        Kind::Vrt => Answer::Rejected(RegistryRejection::NotCredentialInception),
-        Kind::Iss => iss_answer(g, a, s),
-        Kind::Rev => Answer::Rejected(RegistryRejection::NotCredentialInception),
-        Kind::Bis => bis_answer(g, a, s),
-        Kind::Brv => Answer::Rejected(RegistryRejection::NotCredentialInception),
-    }
-}
-
-// The state that an issue leaves: blank for another kind.
-fn issued(registry: Said, e: TelEvent) -> CredentialState
-    ensures { λ r. ⌜ r ≡ issued registry (viewEvent e) ⌝ }
-{
-    let credential = e.credential;
-    let head = e.said;
-    let first = CredentialState {
-        registry,
-        credential,
-        sn: Sn { hi: 0, lo: 0 },
-        head,
-    };
-    let kind = e.kind;
-    match kind {
-        Kind::Vcp => CredentialState::none(),
-        Kind::Vrt => CredentialState::none(),
-        Kind::Iss => first,
-        Kind::Rev => CredentialState::none(),
-        Kind::Bis => first,
-        Kind::Brv => CredentialState::none(),
-    }
-}
-
-fn incept_outcome(g: RegistryState, a: Attempt, s: &[u8]) -> CredentialOutcome
-    requires { ⌜ Anchored (now s) a ⌝ }
-    ensures { λ r. ⌜ viewOutcome r ≡ inceptMessage (viewRegistry g) (viewAttempt (now (s .entry)) a) ⌝ }
-{
-    let answer = incept_event(g, a, s);
-    if accepts(answer) {
-        let first = issued(g.id, a.event);
-        return CredentialOutcome {
-            answer,
-            state: first,
-        };
-    }
-    let blank = CredentialState::none();
-    CredentialOutcome {
-        answer,
-        state: blank,
-    }
-}
-
-// A refusal: the state stays.
-fn refused(w: CredentialState, refusal: RegistryRejection) -> CredentialOutcome
-    ensures { λ r. ⌜ viewOutcome r ≡ record { answer = Rejected refusal; state = w } ⌝ }
-{
-    CredentialOutcome {
-        answer: Answer::Rejected(refusal),
-        state: w,
-    }
-}
-
-// The first event of a credential: an issue.
-pub fn incept(g: RegistryState, s: &[u8]) -> CredentialOutcome
-    ensures { λ r. ⌜ viewOutcome r ≡ inceptOf g (now (s .entry)) ⌝ }
-{
-    let d = Attempt::decode(s);
-    if g.well_formed() & d.ok {
-        return incept_outcome(g, d.attempt, s);
-    }
-    refused(CredentialState::none(), RegistryRejection::Malformed)
-}
+ghost use Rattle.registry_issue.specs.IssueFolds.{viewOutcome};
+ghost use Rattle.registry_credential_state.specs.CredentialFolds.{transition, revAnswer, brvAnswer, ingestEvent, ingestMessage, ingestOf};
 
 // What is left of a rev or brv: the credential, and its place behind the held state.
 fn transition(w: CredentialState, credential: Said, prior: Said) -> Answer

@@ -39,8 +39,10 @@ use Rattle.registry.specs.RegistryFolds as registries
 use Rattle.registry_verification.specs.Sequence.{snBehind, nextSn}
 use Rattle.registry_inception.specs.InceptionFolds.{thresholdFits, vcpAnswer}
 use Rattle.registry.specs.RegistryFolds.{vrtBackers, vrtAnswer}
+use Rattle.registry_issue.specs.IssueFolds as issues
 use Rattle.registry_credential_state.specs.CredentialFolds as credentials
-use Rattle.registry_credential_state.specs.CredentialFolds.{issAnswer, bisAnswer, transition, revAnswer, brvAnswer}
+use Rattle.registry_issue.specs.IssueFolds.{issAnswer, bisAnswer}
+use Rattle.registry_credential_state.specs.CredentialFolds.{transition, revAnswer, brvAnswer}
 use Rattle.registry_laws.specs.Positions.{alone, listsOf}
 use Rattle.registry_laws.proofs.Placed.{Placed, other-placed, if-placed, or-placed, cond-placed, all-placed, check-placed, else-placed}
 
@@ -165,7 +167,7 @@ module _ (g : Registry) (m : Message) where
   abbrev now : List BasicPrefix
   now = authority g (m .evidence) .backers
 
-  issues-placed : (e : Event) → Placed (listsOf now e) (credentials.inceptEvent g e m)
+  issues-placed : (e : Event) → Placed (listsOf now e) (issues.inceptEvent g e m)
   unfolding issAnswer bisAnswer
   issues-placed (vcp said prefix toad configs backers) = other-placed _ _ refl
   issues-placed (vrt said registry prior sn toad cuts additions) = other-placed _ _ refl
@@ -180,8 +182,8 @@ module _ (g : Registry) (m : Message) where
   issues-placed (brv said credential prior seal) = other-placed _ _ refl
 
   -- Where an issue is refused with 24, the element at the position breaks the rule, in the list of the authority.
-  pub issue-offends : (rule : Rule) (i : ℕ) → credentials.inceptMessage g m .answer ≡ Rejected (BackerSet rule i) → Offends (Broken rule i) (listsOf (authority g (m .evidence) .backers) (m .event))
-  unfolding credentials.inceptMessage
+  pub issue-offends : (rule : Rule) (i : ℕ) → issues.inceptMessage g m .answer ≡ Rejected (BackerSet rule i) → Offends (Broken rule i) (listsOf (authority g (m .evidence) .backers) (m .event))
+  unfolding issues.inceptMessage
   issue-offends = issues-placed (m .event)
 
   revokes-placed : (w : CredentialState) (e : Event) → Placed (listsOf now e) (credentials.ingestEvent g w e m)
@@ -219,16 +221,16 @@ module _ (s : List ℕ) (m : Message) (d : decodeOf s ≡ decoded m) where
       rw d
       (cond-placed _ (λ (r : inceptions.Outcome). r .answer) (wellRegistry g) (registries.ingestMessage h m) (record { answer = Rejected Malformed; state = h }) (rotation-offends h m) (other-placed _ _ refl))
 
-  pub issue-offends-bytes : (g : RegistryState) (rule : Rule) (i : ℕ) → credentials.inceptOf g s .answer ≡ Rejected (BackerSet rule i) → Offends (Broken rule i) (listsOf (authority (viewRegistry g) (m .evidence) .backers) (m .event))
-  unfolding credentials.inceptOf
+  pub issue-offends-bytes : (g : RegistryState) (rule : Rule) (i : ℕ) → issues.inceptOf g s .answer ≡ Rejected (BackerSet rule i) → Offends (Broken rule i) (listsOf (authority (viewRegistry g) (m .evidence) .backers) (m .event))
+  unfolding issues.inceptOf
   issue-offends-bytes g =
       let h = viewRegistry g in
       rw d
-      (cond-placed _ (λ (r : credentials.Outcome). r .answer) (wellRegistry g) (credentials.inceptMessage h m) (record { answer = Rejected Malformed; state = noCredential }) (issue-offends h m) (other-placed _ _ refl))
+      (cond-placed _ (λ (r : issues.Outcome). r .answer) (wellRegistry g) (issues.inceptMessage h m) (record { answer = Rejected Malformed; state = noCredential }) (issue-offends h m) (other-placed _ _ refl))
 
   pub revocation-offends-bytes : (g : RegistryState) (w : CredentialState) (rule : Rule) (i : ℕ) → credentials.ingestOf g w s .answer ≡ Rejected (BackerSet rule i) → Offends (Broken rule i) (listsOf (authority (viewRegistry g) (m .evidence) .backers) (m .event))
   unfolding credentials.ingestOf
   revocation-offends-bytes g w =
       let h = viewRegistry g in
       rw d
-      (cond-placed _ (λ (r : credentials.Outcome). r .answer) (wellRegistry g && wellCredential w) (credentials.ingestMessage h w m) (record { answer = Rejected Malformed; state = w }) (revocation-offends h m w) (other-placed _ _ refl))
+      (cond-placed _ (λ (r : issues.Outcome). r .answer) (wellRegistry g && wellCredential w) (credentials.ingestMessage h w m) (record { answer = Rejected Malformed; state = w }) (revocation-offends h m w) (other-placed _ _ refl))

@@ -25,7 +25,8 @@ use Rattle.registry_error.specs.declared.error.Answer.{Answer}
 use Rattle.registry_error.specs.declared.error.Answer.the-variants.{Accepted, Rejected}
 use Rattle.registry_error.specs.declared.error.RegistryRejection.the-variants.{Malformed, InconsistentRegistry}
 use Rattle.registry_authentication.specs.Backers.{sameRegistry, resolvedBy, authority, backedBy, authenticateBacker}
-use Rattle.registry_credential_state.specs.CredentialFolds.{Outcome, issAnswer, bisAnswer, inceptEvent, inceptMessage, inceptDecoded, inceptOf, revAnswer, brvAnswer, ingestEvent, ingestAnswer, ingestMessage, ingestDecoded, ingestOf}
+use Rattle.registry_issue.specs.IssueFolds.{Outcome, issAnswer, bisAnswer, inceptEvent, inceptMessage, inceptDecoded, inceptOf}
+use Rattle.registry_credential_state.specs.CredentialFolds.{revAnswer, brvAnswer, ingestEvent, ingestAnswer, ingestMessage, ingestDecoded, ingestOf}
 use Rattle.registry_laws.specs.States.{OneRegistry}
 
 or-assoc : (x y z : Answer) → orElse (orElse x y) z ≡ orElse x (orElse y z)

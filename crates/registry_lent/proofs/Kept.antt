@@ -13,7 +13,8 @@ use Rattle.registry_error.specs.Answers.{accepts}
 use Rattle.registry_error.specs.declared.error.Answer.{Answer}
 use Rattle.registry_error.specs.declared.error.Answer.the-variants.{Rejected}
 use Rattle.registry_error.specs.declared.error.RegistryRejection.the-variants.{Malformed}
-use Rattle.registry_credential_state.specs.CredentialFolds.{Outcome, ingestAnswer, revoked, ingestMessage, ingestDecoded, ingestOf}
+use Rattle.registry_issue.specs.IssueFolds.{Outcome}
+use Rattle.registry_credential_state.specs.CredentialFolds.{ingestAnswer, revoked, ingestMessage, ingestDecoded, ingestOf}
 
 -- the state w, with the sn and the head of v
 abbrev pub stored : CredentialState → CredentialState → CredentialState

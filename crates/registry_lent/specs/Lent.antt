@@ -1,5 +1,5 @@
 -- What a fold says of a lent state.
-use Rattle.registry_credential_state.specs.CredentialFolds.{Outcome}
+use Rattle.registry_issue.specs.IssueFolds.{Outcome}
 use Rattle.registry_lent.specs.declared.credential_state.Changes.{Changes}
 
 -- of the state behind it what may differ from the state before, and the answer

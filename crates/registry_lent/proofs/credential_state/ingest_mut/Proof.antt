@@ -43,7 +43,8 @@ use denote.Triple.Walked.{says, Stays, stay-none, stay-ref, stay-none-slice, wal
 use denote.Exit.{yes}
 use Rattle.registry_state.specs.declared.state.RegistryState.{RegistryState}
 use Rattle.registry_state.specs.declared.state.CredentialState.{CredentialState}
-use Rattle.registry_credential_state.specs.CredentialFolds.{Outcome, ingestOf}
+use Rattle.registry_issue.specs.IssueFolds.{Outcome}
+use Rattle.registry_credential_state.specs.CredentialFolds.{ingestOf}
 use Rattle.registry_lent.specs.Lent.{changesOf}
 use Rattle.registry_lent.specs.declared.credential_state.Changes.{Changes}
 use Rattle.registry_lent.proofs.Kept.{stored, kept}

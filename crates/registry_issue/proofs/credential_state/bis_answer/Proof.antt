@@ -2,11 +2,11 @@ use denote.Ref.{now}
 use native.Mathlib.Omega.{arith}
 use Rattle.registry_authentication.proofs.AnchorUse.{message-in}
 use Rattle.events_tel.specs.TelEvents.{snZero}
-use Rattle.registry_credential_state.specs.CredentialFolds.{bisAnswer}
+use Rattle.registry_issue.specs.IssueFolds.{bisAnswer}
 use Rattle.registry_error.specs.Answers.{firstOf}
 use borrow.Author.Needs.{needs}
-use Rattle.registry_credential_state.proofs.credential_state.bis_answer.Statement.{statement}
-use Rattle.registry_credential_state.proofs.credential_state.bis_answer.Tie as tie
+use Rattle.registry_issue.proofs.credential_state.bis_answer.Statement.{statement}
+use Rattle.registry_issue.proofs.credential_state.bis_answer.Tie as tie
 
 same-requires : tie.Need-same-requires
 same-requires c κs = search needs

@@ -4,10 +4,10 @@ use Rattle.registry_wire.specs.Attempts.{viewAttempt}
 use denote.Ref.{now}
 use mathlib.Core.Path.{sym, ap}
 use Rattle.registry_state.specs.States.{viewRegistry}
-use Rattle.registry_credential_state.specs.CredentialFolds.{inceptEvent}
+use Rattle.registry_issue.specs.IssueFolds.{inceptEvent}
 use borrow.Author.Needs.{needs}
-use Rattle.registry_credential_state.proofs.credential_state.incept_event.Statement.{statement}
-use Rattle.registry_credential_state.proofs.credential_state.incept_event.Tie as tie
+use Rattle.registry_issue.proofs.credential_state.incept_event.Statement.{statement}
+use Rattle.registry_issue.proofs.credential_state.incept_event.Tie as tie
 
 enum-told : tie.Need-enum-told
 enum-told c = search needs

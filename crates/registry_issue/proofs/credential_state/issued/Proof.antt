@@ -1,6 +1,6 @@
 use borrow.Author.Needs.{needs}
-use Rattle.registry_credential_state.proofs.credential_state.issued.Statement.{statement}
-use Rattle.registry_credential_state.proofs.credential_state.issued.Tie as tie
+use Rattle.registry_issue.proofs.credential_state.issued.Statement.{statement}
+use Rattle.registry_issue.proofs.credential_state.issued.Tie as tie
 
 enum-told : tie.Need-enum-told
 enum-told c = search needs

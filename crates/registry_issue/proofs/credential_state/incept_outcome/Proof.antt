@@ -4,10 +4,10 @@ use mathlib.Core.Bool.{true, false}
 use Rattle.registry_state.specs.States.{viewRegistry}
 use Rattle.registry_wire.specs.Attempts.{viewAttempt}
 use Rattle.registry_error.specs.Answers.{accepts}
-use Rattle.registry_credential_state.proofs.CredentialLaws.{incept-kept}
+use Rattle.registry_issue.proofs.IssueLaws.{incept-kept}
 use borrow.Author.Needs.{needs}
-use Rattle.registry_credential_state.proofs.credential_state.incept_outcome.Statement.{statement}
-use Rattle.registry_credential_state.proofs.credential_state.incept_outcome.Tie as tie
+use Rattle.registry_issue.proofs.credential_state.incept_outcome.Statement.{statement}
+use Rattle.registry_issue.proofs.credential_state.incept_outcome.Tie as tie
 
 incept-event-requires : tie.Need-incept-event-requires
 incept-event-requires c κs = search needs

@@ -3,10 +3,10 @@ use native.Mathlib.Omega.{arith}
 use Rattle.laws.proofs.Tests.{and-left, and-right}
 use Rattle.registry_authentication.proofs.AnchorUse.{decoded-good, anchored-parts}
 use mathlib.Core.Path.{sym, _∙_}
-use Rattle.registry_credential_state.proofs.CredentialLaws.{incept-decoded, incept-malformed}
+use Rattle.registry_issue.proofs.IssueLaws.{incept-decoded, incept-malformed}
 use borrow.Author.Needs.{needs}
-use Rattle.registry_credential_state.proofs.credential_state.incept.Statement.{statement}
-use Rattle.registry_credential_state.proofs.credential_state.incept.Tie as tie
+use Rattle.registry_issue.proofs.credential_state.incept.Statement.{statement}
+use Rattle.registry_issue.proofs.credential_state.incept.Tie as tie
 
 decode-requires : tie.Need-decode-requires
 decode-requires c κs = search needs
