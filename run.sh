@@ -1,10 +1,11 @@
 #!/usr/bin/env bash
-# The main job, as far as it is built: runs the recorded thresholds and prints how many answers agree, decodes the recorded and the
-# damaged attempts and prints which are malformed and how many are as expected, then replays the recorded answers of the folds and of
-# `status` and prints for each number how many agree.
+# The main job: prints what a ledger answers to a list of attempts. Without a word it takes the sample of this repository, with a file's
+# name that file, and with - standard input.
 set -euo pipefail
-cd "$(dirname "$0")"
-rt check thresholds decodes folds >/dev/null
-target/bin/thresholds <crates/thresholds/stdin
-target/bin/decodes <crates/decodes/stdin
-target/bin/folds <crates/folds/stdin
+here="$(cd "$(dirname "$0")" && pwd)"
+(cd "$here" && rt check attempts >/dev/null)
+input="${1:-$here/crates/attempts/stdin}"
+if [ "$input" = - ]; then
+    exec "$here/target/bin/attempts"
+fi
+exec "$here/target/bin/attempts" <"$input"

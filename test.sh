@@ -1,16 +1,18 @@
 #!/usr/bin/env bash
-# All tests: the layout of the files, then every proof from nothing, every must-fail edit and every program.
-# The last line is 'N passed, 0 failed', and it is printed only when everything passed.
+# All tests: the layout of the files, then every proof from nothing, every must-fail edit and every program, then recorded runs of the
+# printed program. The last line is 'N passed, 0 failed', and it is printed only when everything passed.
 set -euo pipefail
 cd "$(dirname "$0")"
 rt fmt --check
 said=$(mktemp)
 trap 'rm -f "$said"' EXIT
-# The last line is held back until the whole output has been looked at.
+# The last line is held back until everything else has passed.
 rt ci 2>&1 | tee "$said" | sed '$d'
 # A verdict that rests on an earlier run is none.
 if grep -qE '(cache|incremental)=trusted' "$said"; then
     echo "a verdict rests on an earlier run"
     exit 1
 fi
-tail -n 1 "$said" | grep -E '^[0-9]+ passed, 0 failed$'
+tail -n 1 "$said" | grep -qE '^[0-9]+ passed, 0 failed$'
+tests/attempts.sh
+tail -n 1 "$said"
