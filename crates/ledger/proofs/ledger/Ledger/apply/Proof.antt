@@ -53,15 +53,12 @@ use Rattle.ledger.proofs.ledger.Ledger as K
 use Rattle.ledger.proofs.ledger.Ledger.Laws as K′
 use Rattle.ledger.proofs.ArrayLoans.{lends, backs}
 use Rattle.ledger.proofs.Spelled.{low-g, low-w, spelled, tells, IsG, IsW, Parts, parts, whole as ledger-is, length-g, length-w, room-g, room-w}
-use mathlib.Core.Bool.{false}
-use Rattle.registry_error.specs.Answers.{accepts}
 use Rattle.ledger_step.specs.Ledgers.{lentLedger}
 use Rattle.ledger_step.specs.Steps.{requestOf, effect, stepOf}
 use Rattle.ledger_apply.specs.Applies.{lent as slices, Stores}
 use Rattle.ledger_apply.specs.declared.apply.Applied.{Applied}
 use Rattle.ledger_apply.proofs.apply.Applied as B
 use Rattle.ledger_apply.proofs.apply.Applied.Laws as B′
-use Rattle.ledger.specs.LedgerValues.{viewLedger}
 use Rattle.ledger.specs.declared.ledger.LedgerApplied.{LedgerApplied}
 use Rattle.ledger.proofs.ledger.LedgerApplied as N
 use Rattle.ledger.proofs.ledger.LedgerApplied.Laws as N′
@@ -187,8 +184,8 @@ module _ {M : Type 1} (𝓤 : URA M) (H : Heap 𝓤) (A : Atoms 𝓤) (W : Given
       qed W (‵ (flft κ q) ∷ []) ∵
       suffices ! _ (ends-at 𝓤 H A me.ended stayed (me.clauses 𝓤 H A mem run) W (((κ, tt), (q, tt), tt, x, at), tt) (spelled-applied (result r gs′ ws′)) (result r gs′ ws′) (tt, (tt, tt)) (tt, (tt, tt))) $
       -- the facts, the last first
-      suffices ! _ (assoc∗ 𝓤 (onExit 𝓤 H A me.ended stayed (κ, tt) (q, tt) at (spelled-applied (result r gs′ ws′)) (result r gs′ ws′) x (tt, (tt, tt))) (fact 𝓤 (r .answer ≡ stepOf (viewLedger ledger) attempt .answer)) (sep 𝓤 (fact 𝓤 (viewLedger (next r gs′ ws′) ≡ stepOf (viewLedger ledger) attempt .ledger)) (fact 𝓤 (accepts (r .answer) ≡ false → next r gs′ ws′ ≡ ledger)))) $
-      suffices ! _ (assoc∗ 𝓤 (sep 𝓤 (onExit 𝓤 H A me.ended stayed (κ, tt) (q, tt) at (spelled-applied (result r gs′ ws′)) (result r gs′ ws′) x (tt, (tt, tt))) (fact 𝓤 (r .answer ≡ stepOf (viewLedger ledger) attempt .answer))) (fact 𝓤 (viewLedger (next r gs′ ws′) ≡ stepOf (viewLedger ledger) attempt .ledger)) (fact 𝓤 (accepts (r .answer) ≡ false → next r gs′ ws′ ≡ ledger))) $
+      suffices ! _ (assoc∗ 𝓤 (onExit 𝓤 H A me.ended stayed (κ, tt) (q, tt) at (spelled-applied (result r gs′ ws′)) (result r gs′ ws′) x (tt, (tt, tt))) (fact 𝓤 _) (sep 𝓤 (fact 𝓤 _) (fact 𝓤 _))) $
+      suffices ! _ (assoc∗ 𝓤 (sep 𝓤 (onExit 𝓤 H A me.ended stayed (κ, tt) (q, tt) at (spelled-applied (result r gs′ ws′)) (result r gs′ ws′) x (tt, (tt, tt))) (fact 𝓤 _)) (fact 𝓤 _) (fact 𝓤 _)) $
       says ! (applied-kept ledger attempt r gs′ ws′ (e .0) (e .2)) $ says ! (applied-view ledger attempt r gs′ ws′ (e .1)) $ says ! (applied-answer ledger attempt r (e .0)) $
       nothing ! $ move ! (1 ∷ 0 ∷ []) $ join ! $ nothing ! $ nothing ! $ fjoin ! $ owned ! K.the-row (Is K.the-row) ((LL.makes K.the-type K′.the-plain) 𝓤 H A) ledger _ is-ledger $ fjoin ! $ move ! (1 ∷ 0 ∷ []) $ frame ! $ frame ! $ owned ! N.the-row (Is N.the-row) ((LL.makes N.the-type N′.the-plain) 𝓤 H A) (result r gs′ ws′) _ (result-is r gs′ ws′ is-r is-gs is-ws) $ done !
 
