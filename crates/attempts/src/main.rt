@@ -11,8 +11,12 @@ use ledger_text::text::write_last;
 use libc::STDIN_FILENO;
 use libc::STDOUT_FILENO;
 use line::answer_attempt;
+ghost use mathlib.Core.Path.{_≡_};
+ghost use mathlib.Core.Bool.{cond};
 ghost use Prim.Native.Nat.{_≤_};
 ghost use lib.ListN.{length};
+ghost use Rattle.ledger.specs.LedgerValues.{viewLedger};
+ghost use Rattle.attempts.specs.Answering.{nextOf};
 
 // The input's count of attempts.
 fn read_count() -> Run {
@@ -44,7 +48,9 @@ fn read_more() -> usize {
 }
 
 // An attempt that is there whole is answered, and its line printed. Of any other nothing is printed, and the ledger is as it was.
-fn print_attempt(ledger: Ledger, run: Run, attempt: &[u8]) -> Ledger {
+fn print_attempt(ledger: Ledger, run: Run, attempt: &[u8]) -> Ledger
+    ensures { λ r. ⌜ viewLedger r ≡ cond (run .broken) (viewLedger ledger) (nextOf (viewLedger ledger) (now (attempt .entry))) ⌝ }
+{
     if run.broken {
         return ledger;
     }
