@@ -1,4 +1,6 @@
+pub mod ApplyLedger
 pub mod ArrayFields
 pub mod ArrayLoans
 pub mod ReadLedger
 pub mod Spelled
+pub mod SpelledApplied

@@ -45,7 +45,7 @@ with-arrays d u v = vstruct (ofList (u ∷ vint w64 (d .«registry_count») ∷ 
 abbrev pub spelled : Ledger → Val
 spelled d = with-arrays d (low-g (d .registries)) (low-w (d .rows))
 
-same : (d : Ledger) → LL.val K.the-type K′.the-laws d ≡ spelled d
+pub same : (d : Ledger) → LL.val K.the-type K′.the-laws d ≡ spelled d
 same d =
     ap (λ (u : Val). with-arrays d u (field.within T.the-type T′.the-laws 256 (d .rows))) (field.spells G.the-type G′.the-laws 16 (d .registries))
     ∙ ap (λ (v : Val). with-arrays d (low-g (d .registries)) v) (field.spells T.the-type T′.the-laws 256 (d .rows))
@@ -73,7 +73,7 @@ parts d vs is = let p = LL.owed K.the-type K′.the-laws d vs is in record {
   rows-counted = p .1 .1 .1 .0 .1;
 }
 
-within : (d : Ledger) → Parts d → Is K.the-row d (LL.vals K.the-type K′.the-laws d)
+pub within : (d : Ledger) → Parts d → Is K.the-row d (LL.vals K.the-type K′.the-laws d)
 within d p = LL.owes K.the-type K′.the-laws d (field.to-field G.the-type G′.the-laws 16 (d .registries) _ (p .registries), ((refl, p .registries-counted), (field.to-field T.the-type T′.the-laws 256 (d .rows) _ (p .rows), ((refl, p .rows-counted), tt))))
 
 pub whole : (d : Ledger) → Parts d → Is K.the-row d (spelled d ∷ [])
