@@ -1,6 +1,2 @@
-pub mod ApplyLedger
-pub mod ArrayFields
-pub mod ArrayLoans
-pub mod ReadLedger
-pub mod Spelled
 pub mod SpelledApplied
+pub mod SpelledRead

@@ -14,11 +14,11 @@ use Rattle.registry_error.specs.declared.error.Answer.{Answer}
 use Rattle.ledger_apply.specs.declared.apply.Applied.{Applied}
 use Rattle.ledger_apply.proofs.apply.Applied as B
 use Rattle.ledger_apply.proofs.apply.Applied.Laws as B′
-use Rattle.ledger.specs.declared.ledger.Ledger.{Ledger}
+use Rattle.ledger_table.specs.declared.table.Ledger.{Ledger}
 use Rattle.ledger.specs.declared.ledger.LedgerApplied.{LedgerApplied}
 use Rattle.ledger.proofs.ledger.LedgerApplied as N
 use Rattle.ledger.proofs.ledger.LedgerApplied.Laws as N′
-use Rattle.ledger.proofs.Spelled.{spelled, Parts, same, within}
+use Rattle.ledger_table.proofs.Spelled.{spelled, Parts, same, within}
 
 abbrev pub spelled-call : Applied → Val
 spelled-call r = LL.val B.the-type B′.the-laws r

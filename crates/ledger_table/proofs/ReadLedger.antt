@@ -14,8 +14,8 @@ use Rattle.ledger_image.specs.Images.ImageAnswer.{refused, held}
 use Rattle.ledger_read.specs.ImageReads.{Counts, countsOf, countsAfter, rowsAfter}
 use Rattle.ledger_read.specs.declared.read.ImageRead.{ImageRead}
 use Rattle.ledger_read.proofs.ReadBack.{ReadInto, held-after}
-use Rattle.ledger.specs.LedgerValues.{viewLedger, ledgerAfter}
-use Rattle.ledger.specs.declared.ledger.Ledger.{Ledger}
+use Rattle.ledger_table.specs.Tables.{viewLedger, ledgerAfter}
+use Rattle.ledger_table.specs.declared.table.Ledger.{Ledger}
 
 -- the ledger that is made of what was read
 abbrev pub next : ImageRead → List RegistryState → List CredentialState → Ledger

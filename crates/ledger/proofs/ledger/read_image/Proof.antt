@@ -1,4 +1,4 @@
--- `Ledger::read_image` meets its contract: a walk of its MIR, by hand. Both arrays are copied to locals and lent as `&mut` slices, each for a lifetime of the call; they come back at the lists that the call leaves, and a ledger is made of them.
+-- `read_image` meets its contract: a walk of its MIR, by hand. Both arrays are copied to locals and lent as `&mut` slices, each for a lifetime of the call; they come back at the lists that the call leaves, and a ledger is made of them.
 -- Assumes nothing.
 use mathlib.Core.Path.{_≡_, refl, sym, ap, _∙_, subst}
 use Prim.Native.Nat.{ℕ}
@@ -48,11 +48,11 @@ use Rattle.registry_state.proofs.state.RegistryState as G
 use Rattle.registry_state.proofs.state.RegistryState.Laws as G′
 use Rattle.registry_state.proofs.state.CredentialState as T
 use Rattle.registry_state.proofs.state.CredentialState.Laws as T′
-use Rattle.ledger.specs.declared.ledger.Ledger.{Ledger}
-use Rattle.ledger.proofs.ledger.Ledger as K
-use Rattle.ledger.proofs.ledger.Ledger.Laws as K′
-use Rattle.ledger.proofs.ArrayLoans.{lends, backs}
-use Rattle.ledger.proofs.Spelled.{low-g, low-w, spelled, tells, IsG, IsW, Parts, parts, whole as ledger-is, length-g, length-w, room-g, room-w}
+use Rattle.ledger_table.specs.declared.table.Ledger.{Ledger}
+use Rattle.ledger_table.proofs.table.Ledger as K
+use Rattle.ledger_table.proofs.table.Ledger.Laws as K′
+use Rattle.ledger_table.proofs.ArrayLoans.{lends, backs}
+use Rattle.ledger_table.proofs.Spelled.{low-g, low-w, spelled, tells, IsG, IsW, Parts, parts, whole as ledger-is, length-g, length-w, room-g, room-w}
 use Rattle.ledger_image.specs.Images.{imageInto, imageOf, imageNumber}
 use Rattle.ledger_image.specs.Images.ImageAnswer.{refused}
 use Rattle.ledger_read.proofs.ReadBack.{ReadInto}
@@ -60,21 +60,21 @@ use Rattle.ledger_read.specs.ImageReads.{countsOf, countsAfter, rowsAfter, Regi
 use Rattle.ledger_read.specs.declared.read.ImageRead.{ImageRead}
 use Rattle.ledger_read.proofs.read.ImageRead as I
 use Rattle.ledger_read.proofs.read.ImageRead.Laws as I′
-use Rattle.ledger.specs.LedgerValues.{viewLedger, ledgerAfter}
+use Rattle.ledger_table.specs.Tables.{viewLedger, ledgerAfter}
 use Rattle.ledger.specs.declared.ledger.LedgerRead.{LedgerRead}
 use Rattle.ledger.proofs.ledger.LedgerRead as N
 use Rattle.ledger.proofs.ledger.LedgerRead.Laws as N′
-use Rattle.ledger.proofs.Spelled.{spelled-read, whole-read}
-use Rattle.ledger.proofs.ReadLedger.{next, answer-is, read-view, read-kept}
+use Rattle.ledger.proofs.SpelledRead.{spelled-read, whole-read}
+use Rattle.ledger_table.proofs.ReadLedger.{next, answer-is, read-view, read-kept}
 use Rattle.ledger_read.proofs.read.read_image as callee
 use Rattle.ledger_read.proofs.read.read_image.Symbol as callee-def
 use Rattle.ledger_read.proofs.read.read_image.Symbol.{name as #callee}
 use Rattle.ledger_read.proofs.read.read_image.Met as callee-thm
-use Rattle.ledger.proofs.ledger.Ledger.read_image.Key.{name as #me}
-use Rattle.ledger.proofs.ledger.Ledger.read_image as me
-use Rattle.ledger.proofs.ledger.Ledger.read_image.Statement as stated
-use Rattle.ledger.proofs.ledger.Ledger.read_image.Code as code
-use Rattle.ledger.proofs.ledger.Ledger.read_image.Code.Mir as mirᶠ
+use Rattle.ledger.proofs.ledger.read_image.Key.{name as #me}
+use Rattle.ledger.proofs.ledger.read_image as me
+use Rattle.ledger.proofs.ledger.read_image.Statement as stated
+use Rattle.ledger.proofs.ledger.read_image.Code as code
+use Rattle.ledger.proofs.ledger.read_image.Code.Mir as mirᶠ
 
 abbrev stayed : Stays (me.ended .signature .params) (me.ended .kept)
 stayed = (stay-none (λ _. K.the-row) yes, (stay-dropped (shrSliceOf (0 ∷ []) tt (plain (λ _. u8))) yes, tt))

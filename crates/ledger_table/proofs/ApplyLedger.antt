@@ -14,8 +14,8 @@ use Rattle.ledger_step.specs.Steps.{Effect, requestOf, effect, answerOf, stepOf
 use Rattle.ledger_step.specs.Steps.Effect.{refuse, newRegistry, setRegistry, newRow, setRow}
 use Rattle.ledger_apply.specs.Applies.{Lent, lent, Stores}
 use Rattle.ledger_apply.specs.declared.apply.Applied.{Applied}
-use Rattle.ledger.specs.LedgerValues.{viewLedger}
-use Rattle.ledger.specs.declared.ledger.Ledger.{Ledger}
+use Rattle.ledger_table.specs.Tables.{viewLedger}
+use Rattle.ledger_table.specs.declared.table.Ledger.{Ledger}
 
 -- the ledger that is made of what the call leaves
 abbrev pub next : Applied → List RegistryState → List CredentialState → Ledger

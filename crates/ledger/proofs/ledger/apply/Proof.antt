@@ -1,4 +1,4 @@
--- `Ledger::apply` meets its contract: a walk of its MIR, by hand. Both arrays are copied to locals and lent as `&mut` slices, each for a lifetime of the call; they come back at the lists that the call leaves, and a ledger is made of them.
+-- `apply` meets its contract: a walk of its MIR, by hand. Both arrays are copied to locals and lent as `&mut` slices, each for a lifetime of the call; they come back at the lists that the call leaves, and a ledger is made of them.
 -- Assumes nothing.
 use mathlib.Core.Path.{_≡_, refl, sym, ap, subst}
 use Prim.Native.Nat.{ℕ}
@@ -48,11 +48,11 @@ use Rattle.registry_state.proofs.state.RegistryState as G
 use Rattle.registry_state.proofs.state.RegistryState.Laws as G′
 use Rattle.registry_state.proofs.state.CredentialState as T
 use Rattle.registry_state.proofs.state.CredentialState.Laws as T′
-use Rattle.ledger.specs.declared.ledger.Ledger.{Ledger}
-use Rattle.ledger.proofs.ledger.Ledger as K
-use Rattle.ledger.proofs.ledger.Ledger.Laws as K′
-use Rattle.ledger.proofs.ArrayLoans.{lends, backs}
-use Rattle.ledger.proofs.Spelled.{low-g, low-w, spelled, tells, IsG, IsW, Parts, parts, whole as ledger-is, length-g, length-w, room-g, room-w}
+use Rattle.ledger_table.specs.declared.table.Ledger.{Ledger}
+use Rattle.ledger_table.proofs.table.Ledger as K
+use Rattle.ledger_table.proofs.table.Ledger.Laws as K′
+use Rattle.ledger_table.proofs.ArrayLoans.{lends, backs}
+use Rattle.ledger_table.proofs.Spelled.{low-g, low-w, spelled, tells, IsG, IsW, Parts, parts, whole as ledger-is, length-g, length-w, room-g, room-w}
 use Rattle.ledger_step.specs.Ledgers.{lentLedger}
 use Rattle.ledger_step.specs.Steps.{requestOf, effect, stepOf}
 use Rattle.ledger_apply.specs.Applies.{lent as slices, Stores}
@@ -63,16 +63,16 @@ use Rattle.ledger.specs.declared.ledger.LedgerApplied.{LedgerApplied}
 use Rattle.ledger.proofs.ledger.LedgerApplied as N
 use Rattle.ledger.proofs.ledger.LedgerApplied.Laws as N′
 use Rattle.ledger.proofs.SpelledApplied.{spelled-call, spelled-applied, whole-applied}
-use Rattle.ledger.proofs.ApplyLedger.{next, applied-answer, applied-view, applied-kept}
+use Rattle.ledger_table.proofs.ApplyLedger.{next, applied-answer, applied-view, applied-kept}
 use Rattle.ledger_apply.proofs.apply.apply as callee
 use Rattle.ledger_apply.proofs.apply.apply.Symbol as callee-def
 use Rattle.ledger_apply.proofs.apply.apply.Symbol.{name as #callee}
 use Rattle.ledger_apply.proofs.apply.apply.Met as callee-thm
-use Rattle.ledger.proofs.ledger.Ledger.apply.Key.{name as #me}
-use Rattle.ledger.proofs.ledger.Ledger.apply as me
-use Rattle.ledger.proofs.ledger.Ledger.apply.Statement as stated
-use Rattle.ledger.proofs.ledger.Ledger.apply.Code as code
-use Rattle.ledger.proofs.ledger.Ledger.apply.Code.Mir as mirᶠ
+use Rattle.ledger.proofs.ledger.apply.Key.{name as #me}
+use Rattle.ledger.proofs.ledger.apply as me
+use Rattle.ledger.proofs.ledger.apply.Statement as stated
+use Rattle.ledger.proofs.ledger.apply.Code as code
+use Rattle.ledger.proofs.ledger.apply.Code.Mir as mirᶠ
 
 abbrev stayed : Stays (me.ended .signature .params) (me.ended .kept)
 stayed = (stay-none (λ _. K.the-row) yes, (stay-dropped (shrSliceOf (0 ∷ []) tt (plain (λ _. u8))) yes, tt))

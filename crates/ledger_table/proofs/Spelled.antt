@@ -2,7 +2,6 @@
 --     spelled      that value
 --     tells        whatever the ledger's relation relates to a ledger is that
 --     Parts        the relations of its fields;  parts, whole      the ledger's relation gives them, and they give it
---     spelled-read, whole-read     the same of a ledger beside a number
 --     viewed       where both arrays are lent, the ledger that is handed in
 -- Assumes nothing.
 use mathlib.Core.Path.{_≡_, refl, sym, ap, _∙_, subst}
@@ -10,7 +9,7 @@ use Prim.Native.Nat.{ℕ, _<_, _^_}
 use mathlib.Core.List.{List, [], _∷_}
 use lib.Dec.{lit<}
 use lib.ListN.{length}
-use mir.Syntax.{w8, w64}
+use mir.Syntax.{w64}
 use mir.Val.{Val, vint, vstruct, ofList}
 use denote.Array.{Array}
 use denote.Laws.{Is, Tells}
@@ -23,14 +22,11 @@ use Rattle.registry_state.proofs.state.RegistryState.Laws as G′
 use Rattle.registry_state.proofs.state.CredentialState as T
 use Rattle.registry_state.proofs.state.CredentialState.Laws as T′
 use Rattle.ledger_step.specs.Ledgers.{lentLedger}
-use Rattle.ledger.specs.LedgerValues.{viewLedger}
-use Rattle.ledger.specs.declared.ledger.Ledger.{Ledger}
-use Rattle.ledger.specs.declared.ledger.LedgerRead.{LedgerRead}
-use Rattle.ledger.proofs.ledger.Ledger as K
-use Rattle.ledger.proofs.ledger.Ledger.Laws as K′
-use Rattle.ledger.proofs.ledger.LedgerRead as N
-use Rattle.ledger.proofs.ledger.LedgerRead.Laws as N′
-use Rattle.ledger.proofs.ArrayFields as field
+use Rattle.ledger_table.specs.Tables.{viewLedger}
+use Rattle.ledger_table.specs.declared.table.Ledger.{Ledger}
+use Rattle.ledger_table.proofs.table.Ledger as K
+use Rattle.ledger_table.proofs.table.Ledger.Laws as K′
+use Rattle.ledger_table.proofs.ArrayFields as field
 
 -- the machine values of the arrays
 abbrev pub low-g : List RegistryState → Val
@@ -78,14 +74,6 @@ within d p = LL.owes K.the-type K′.the-laws d (field.to-field G.the-type G′.
 
 pub whole : (d : Ledger) → Parts d → Is K.the-row d (spelled d ∷ [])
 whole d p = subst (λ (u : Val). Is K.the-row d (u ∷ [])) (same d) (within d p)
-
-abbrev pub spelled-read : LedgerRead → Val
-spelled-read r = vstruct (ofList (vint w8 (r .number) ∷ spelled (r .ledger) ∷ []))
-
-pub whole-read : (r : LedgerRead) → r .number < 2 ^ 8 → Parts (r .ledger) → Is N.the-row r (spelled-read r ∷ [])
-whole-read r h p =
-    subst (λ (u : Val). Is N.the-row r (vstruct (ofList (vint w8 (r .number) ∷ u ∷ [])) ∷ [])) (same (r .ledger))
-    (LL.owes N.the-type N′.the-laws r ((refl, h), (within (r .ledger) p, tt)))
 
 -- an array has as many elements as its type says, and a slice has room for them
 pub length-g : (gs : List RegistryState) → IsG gs → length gs ≡ 16

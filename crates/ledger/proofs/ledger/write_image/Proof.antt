@@ -1,4 +1,4 @@
--- `Ledger::write_image` meets its contract: a walk of its MIR, by hand. Both arrays are copied to locals, lent as `&` slices for one lifetime of the call, and come back; the buffer is handed on, at its own lifetime.
+-- `write_image` meets its contract: a walk of its MIR, by hand. Both arrays are copied to locals, lent as `&` slices for one lifetime of the call, and come back; the buffer is handed on, at its own lifetime.
 -- Assumes nothing.
 use mathlib.Core.Path.{_≡_, refl, sym, ap, _∙_, subst}
 use Prim.Native.Nat.{ℕ}
@@ -47,27 +47,27 @@ use Rattle.registry_state.proofs.state.RegistryState as G
 use Rattle.registry_state.proofs.state.RegistryState.Laws as G′
 use Rattle.registry_state.proofs.state.CredentialState as T
 use Rattle.registry_state.proofs.state.CredentialState.Laws as T′
-use Rattle.ledger.specs.declared.ledger.Ledger.{Ledger}
-use Rattle.ledger.proofs.ledger.Ledger as K
-use Rattle.ledger.proofs.ledger.Ledger.Laws as K′
-use Rattle.ledger.proofs.ArrayLoans.{Shared, shares, unshares}
-use Rattle.ledger.proofs.Spelled.{low-g, low-w, spelled, tells, Parts, parts, length-g, length-w, room-g, room-w}
+use Rattle.ledger_table.specs.declared.table.Ledger.{Ledger}
+use Rattle.ledger_table.proofs.table.Ledger as K
+use Rattle.ledger_table.proofs.table.Ledger.Laws as K′
+use Rattle.ledger_table.proofs.ArrayLoans.{Shared, shares, unshares}
+use Rattle.ledger_table.proofs.Spelled.{low-g, low-w, spelled, tells, Parts, parts, length-g, length-w, room-g, room-w}
 use Rattle.ledger_step.specs.Ledgers.{lentLedger}
 use Rattle.ledger_image.specs.Images.{writtenOf}
 use Rattle.ledger_write.specs.Writes.{viewWritten}
 use Rattle.ledger_write.specs.declared.write.Written.{Written as Answered}
 use Rattle.ledger_write.proofs.write.Written as P
 use Rattle.ledger_write.proofs.write.Written.Laws as P′
-use Rattle.ledger.proofs.Spelled.{viewed}
+use Rattle.ledger_table.proofs.Spelled.{viewed}
 use Rattle.ledger_write.proofs.write.write_image as callee
 use Rattle.ledger_write.proofs.write.write_image.Symbol as callee-def
 use Rattle.ledger_write.proofs.write.write_image.Symbol.{name as #callee}
 use Rattle.ledger_write.proofs.write.write_image.Met as callee-thm
-use Rattle.ledger.proofs.ledger.Ledger.write_image.Key.{name as #me}
-use Rattle.ledger.proofs.ledger.Ledger.write_image as me
-use Rattle.ledger.proofs.ledger.Ledger.write_image.Statement as stated
-use Rattle.ledger.proofs.ledger.Ledger.write_image.Code as code
-use Rattle.ledger.proofs.ledger.Ledger.write_image.Code.Mir as mirᶠ
+use Rattle.ledger.proofs.ledger.write_image.Key.{name as #me}
+use Rattle.ledger.proofs.ledger.write_image as me
+use Rattle.ledger.proofs.ledger.write_image.Statement as stated
+use Rattle.ledger.proofs.ledger.write_image.Code as code
+use Rattle.ledger.proofs.ledger.write_image.Code.Mir as mirᶠ
 
 abbrev stayed : Stays (me.ended .signature .params) (me.ended .kept)
 stayed = (stay-none (λ _. K.the-row) yes, (gave-slice (0 ∷ []) tt (plain (λ _. u8)), tt))

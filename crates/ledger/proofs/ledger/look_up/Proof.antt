@@ -1,4 +1,4 @@
--- `Ledger::look_up` meets its contract: a walk of its MIR, by hand. Both arrays are copied to locals, lent as `&` slices for one lifetime of the call, and come back.
+-- `look_up` meets its contract: a walk of its MIR, by hand. Both arrays are copied to locals, lent as `&` slices for one lifetime of the call, and come back.
 -- Assumes nothing.
 use mathlib.Core.Path.{_≡_, refl, sym, ap, _∙_, subst}
 use Prim.Native.Nat.{ℕ}
@@ -45,11 +45,11 @@ use Rattle.registry_state.proofs.state.RegistryState as G
 use Rattle.registry_state.proofs.state.RegistryState.Laws as G′
 use Rattle.registry_state.proofs.state.CredentialState as T
 use Rattle.registry_state.proofs.state.CredentialState.Laws as T′
-use Rattle.ledger.specs.declared.ledger.Ledger.{Ledger}
-use Rattle.ledger.proofs.ledger.Ledger as K
-use Rattle.ledger.proofs.ledger.Ledger.Laws as K′
-use Rattle.ledger.proofs.ArrayLoans.{Shared, shares, unshares}
-use Rattle.ledger.proofs.Spelled.{low-g, low-w, spelled, tells, Parts, parts, length-g, length-w, room-g, room-w}
+use Rattle.ledger_table.specs.declared.table.Ledger.{Ledger}
+use Rattle.ledger_table.proofs.table.Ledger as K
+use Rattle.ledger_table.proofs.table.Ledger.Laws as K′
+use Rattle.ledger_table.proofs.ArrayLoans.{Shared, shares, unshares}
+use Rattle.ledger_table.proofs.Spelled.{low-g, low-w, spelled, tells, Parts, parts, length-g, length-w, room-g, room-w}
 use Rattle.cesr.specs.declared.primitive.Said.{Said}
 use Rattle.cesr.proofs.primitive.Said as S
 use Rattle.cesr.proofs.primitive.Said.Laws as S′
@@ -58,16 +58,16 @@ use Rattle.ledger_lookup.specs.Lookups.{keyPair, viewLookedUp}
 use Rattle.ledger_lookup.specs.declared.lookup.LookedUp.{LookedUp as Answered}
 use Rattle.ledger_lookup.proofs.lookup.LookedUp as P
 use Rattle.ledger_lookup.proofs.lookup.LookedUp.Laws as P′
-use Rattle.ledger.proofs.Spelled.{viewed}
+use Rattle.ledger_table.proofs.Spelled.{viewed}
 use Rattle.ledger_lookup.proofs.lookup.look_up as callee
 use Rattle.ledger_lookup.proofs.lookup.look_up.Symbol as callee-def
 use Rattle.ledger_lookup.proofs.lookup.look_up.Symbol.{name as #callee}
 use Rattle.ledger_lookup.proofs.lookup.look_up.Met as callee-thm
-use Rattle.ledger.proofs.ledger.Ledger.look_up.Key.{name as #me}
-use Rattle.ledger.proofs.ledger.Ledger.look_up as me
-use Rattle.ledger.proofs.ledger.Ledger.look_up.Statement as stated
-use Rattle.ledger.proofs.ledger.Ledger.look_up.Code as code
-use Rattle.ledger.proofs.ledger.Ledger.look_up.Code.Mir as mirᶠ
+use Rattle.ledger.proofs.ledger.look_up.Key.{name as #me}
+use Rattle.ledger.proofs.ledger.look_up as me
+use Rattle.ledger.proofs.ledger.look_up.Statement as stated
+use Rattle.ledger.proofs.ledger.look_up.Code as code
+use Rattle.ledger.proofs.ledger.look_up.Code.Mir as mirᶠ
 
 abbrev stayed : Stays (me.ended .signature .params) (me.ended .kept)
 stayed = (stay-none (λ _. K.the-row) yes, (stay-none (λ _. S.the-row) yes, (stay-none (λ _. S.the-row) yes, tt)))
