@@ -1,3 +1,2 @@
 pub mod Identifiers
 pub mod Members
-pub mod Toads

@@ -1,4 +1,3 @@
 pub mod Identifiers
 pub mod Members
 pub mod Seals
-pub mod Toads

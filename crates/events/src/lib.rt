@@ -2,4 +2,3 @@
 pub mod identifier;
 pub mod member_set;
 pub mod seal;
-pub mod toad;

@@ -5,7 +5,7 @@ use cesr::primitive::Matter;
 use cesr::primitive::Said;
 use events::member_set::Members;
 use events::seal::Seal;
-use events::toad::Toad;
+use events_toad::toad::Toad;
 ghost use mathlib.Core.Path.{_≡_};
 ghost use Rattle.events_tel.specs.TelEvents.{kindNumber, snOfKind};
 

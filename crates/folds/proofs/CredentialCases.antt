@@ -8,7 +8,7 @@ use mathlib.Core.List.{List}
 use lib.ListN.{replicate}
 use Rattle.laws.specs.Words.{sameList}
 use Rattle.registry_state.specs.States.{viewRegistry, credentialBytes, wellRegistry}
-use Rattle.registry_error.specs.Answers.{accepts}
+use Rattle.registry_answer.specs.Answers.{accepts}
 use Rattle.registry_issue.specs.declared.credential_state.CredentialOutcome.{CredentialOutcome}
 use Rattle.registry_issue.specs.IssueFolds.{Outcome, inceptOf, viewOutcome}
 use Rattle.registry_credential_state.specs.CredentialFolds.{ingestOf}

@@ -7,7 +7,7 @@ use mathlib.Core.Bool.{Bool, true, false, cond, _&&_}
 use mathlib.Core.List.{List}
 use Rattle.laws.specs.Words.{sameList}
 use Rattle.registry_state.specs.States.{viewRegistry, registryBytes, wellRegistry}
-use Rattle.registry_error.specs.Answers.{accepts}
+use Rattle.registry_answer.specs.Answers.{accepts}
 use Rattle.registry_inception.specs.declared.registry.RegistryOutcome.{RegistryOutcome}
 use Rattle.registry_inception.specs.InceptionFolds.{Outcome, viewOutcome}
 use Rattle.registry.specs.RegistryFolds.{ingestOf}

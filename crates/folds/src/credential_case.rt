@@ -6,8 +6,8 @@ use crate::part::same;
 use crate::part::unread;
 use crate::report::answered;
 use crate::report::same_told;
+use registry_answer::answer::accepts;
 use registry_credential_state::credential_state::ingest;
-use registry_error::answer::accepts;
 use registry_issue::credential_state::CredentialOutcome;
 use registry_issue::credential_state::incept;
 use registry_state::state::CredentialState;
@@ -15,7 +15,7 @@ ghost use mathlib.Core.Path.{_≡_};
 ghost use mathlib.Core.Bool.{cond};
 ghost use Rattle.laws.specs.Words.{sameList};
 ghost use Rattle.registry_state.specs.States.{credentialBytes};
-ghost use Rattle.registry_error.specs.Answers.{accepts};
+ghost use Rattle.registry_answer.specs.Answers.{accepts};
 ghost use Rattle.folds.specs.Judgement.{judgeIssue, judgeRevoke};
 
 fn same_credential(w: CredentialState, bytes: &[u8]) -> bool

@@ -6,7 +6,7 @@ use crate::part::unread;
 use crate::report::answered;
 use crate::report::same_told;
 use registry::registry::ingest;
-use registry_error::answer::accepts;
+use registry_answer::answer::accepts;
 use registry_inception::registry::RegistryOutcome;
 use registry_inception::registry::incept_with_evidence;
 use registry_state::state::RegistryState;
@@ -14,7 +14,7 @@ ghost use mathlib.Core.Path.{_≡_};
 ghost use mathlib.Core.Bool.{cond};
 ghost use Rattle.laws.specs.Words.{sameList};
 ghost use Rattle.registry_state.specs.States.{viewRegistry, registryBytes};
-ghost use Rattle.registry_error.specs.Answers.{accepts};
+ghost use Rattle.registry_answer.specs.Answers.{accepts};
 ghost use Rattle.folds.specs.Judgement.{judgeIncept, judgeRotate};
 
 // 657 bytes are a state with 8 config bytes and 16 backers.

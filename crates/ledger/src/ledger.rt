@@ -10,7 +10,7 @@ use ledger_write::write::write_image as write_lent;
 use registry_error::error::Answer;
 ghost use mathlib.Core.Path.{_≡_};
 ghost use mathlib.Core.Bool.{false};
-ghost use Rattle.registry_error.specs.Answers.{accepts};
+ghost use Rattle.registry_answer.specs.Answers.{accepts};
 ghost use Rattle.ledger_step.specs.Ledgers.{lookUp};
 ghost use Rattle.ledger_step.specs.Steps.{stepOf};
 ghost use Rattle.ledger_image.specs.Images.{imageOf, imageNumber, writtenOf};

@@ -1,6 +1,6 @@
 // One attempt against a ledger that is lent (docs/RULES.md, "Ledger", "Orders", "Next states").
 use ledger_asked::asked::named;
-use ledger_lookup::lookup::sound;
+use ledger_check::check::sound;
 use ledger_next::call::Next;
 use ledger_next::step::next;
 use ledger_registries::registries::find_registry;

@@ -1,4 +1,3 @@
 // What an attempt asks of the ledger, and the order of the checks around each fold (docs/RULES.md, "Ledger", "Orders").
-pub mod answers;
 pub mod asked;
 pub mod call;

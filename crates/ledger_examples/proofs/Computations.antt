@@ -7,7 +7,7 @@ use Rattle.laws.specs.Count.{count}
 use Rattle.cesr.specs.Numbers.{value, snOf}
 use Rattle.cesr.specs.Primitives.{eqMatter, isBasic, isSaid}
 use Rattle.events.specs.Members.{checkMembers, checkDeltas, checkCurrent, check, breaks, has as hasMember}
-use Rattle.events.specs.Toads.{exactOk}
+use Rattle.events_toad.specs.Toads.{exactOk}
 use Rattle.events_tel.specs.Configs.{noBackers, hasCode}
 use Rattle.codec_cursor.specs.Readers.{isIdentifier}
 use Rattle.codec.specs.Events.{isConfig}
@@ -16,7 +16,7 @@ use Rattle.registry_seals.specs.SignatureSections.{goodSignature}
 use Rattle.registry_state.specs.States.{wellCredential}
 use Rattle.registry_wire.specs.Attempts.{goodMessage, goodSource, goodAnchors, goodAnchor}
 use Rattle.registry_error.specs.declared.error.RegistryRejection.the-variants.{Malformed}
-use Rattle.registry_error.specs.Answers.{acceptIf, firstOf}
+use Rattle.registry_answer.specs.Answers.{acceptIf, firstOf}
 use Rattle.registry_verification.specs.Receipts.{hasGood, receipts}
 use Rattle.registry_verification.specs.Sequence.{nextSn}
 use Rattle.registry_verification.specs.Updated.{survivors, updatedMembers}

@@ -2,7 +2,7 @@
 use crate::ids::Ids;
 use codec_cursor::cursor::Cursor;
 use ledger_image::image::read_count;
-use ledger_registries::registries::registry_sound;
+use ledger_registries_check::check::registry_sound;
 use registry_state::state::RegistryRead;
 use registry_state::state::RegistryState;
 ghost use mathlib.Core.Path.{_≡_};

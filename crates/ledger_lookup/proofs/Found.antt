@@ -1,6 +1,6 @@
 -- What a search in a lent ledger says of the ledger that is lent.
 --     looked-up      what is answered from the row that a search for the key found is the look-up
-use Prim.Native.Nat.{ℕ, _<_, _≤_, min}
+use Prim.Native.Nat.{ℕ, _<_, _≤_}
 use mathlib.Core.Path.{_≡_, refl, sym, ap, _∙_}
 use mathlib.Core.Bool.{Bool, true, false, cond, _&&_}
 use mathlib.Core.Option.{Option, none, some}
@@ -21,14 +21,6 @@ use Rattle.ledger_step.proofs.PlaceLaws.{find-place}
 use Rattle.ledger_step.proofs.Rules.{Keeps, parts}
 use Rattle.ledger_rows.specs.Rows as R
 use Rattle.ledger_lookup.specs.Lookups.{keyPair, lookedUpOf}
-
-pub below-both : (a b c : ℕ) → (ltb a b && ltb a c) ≡ ltb a (min b c)
-below-both a b c = go (ltb a b) (ltb a c) refl refl
-  where
-    go : (p q : Bool) → ltb a b ≡ p → ltb a c ≡ q → (p && q) ≡ ltb a (min b c)
-    go true true e f = let h = ltb-true a b e in let k = ltb-true a c f in sym (lt-ltb a (min b c) (omega (arith, h, k)))
-    go true false e f = let k = ltb-false a c f in sym (le-ltb a (min b c) (omega (arith, k)))
-    go false q e f = let k = ltb-false a b e in sym (le-ltb a (min b c) (omega (arith, k)))
 
 -- an sn of 0 is one below 1
 pub zero-below : (n : ℕ) → ltb n 1 ≡ eqb n 0

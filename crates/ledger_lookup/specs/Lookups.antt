@@ -2,24 +2,16 @@
 use Prim.Native.Nat.{ℕ}
 use mathlib.Core.Bool.{Bool, cond, _&&_}
 use mathlib.Core.Option.{none, some}
-use mathlib.Core.List.{List, map}
 use lib.Dec.{ltb}
-use lib.ListN.{take}
 use Rattle.cesr.specs.declared.primitive.Said.{Said}
-use Rattle.codec.specs.Layout.{all}
-use Rattle.registry_state.specs.declared.state.RegistryState.{RegistryState}
 use Rattle.registry_state.specs.declared.state.CredentialState.{CredentialState}
 use Rattle.registry_laws.specs.Pairs.{Pair}
-use Rattle.ledger_step.specs.Ledgers.{heldOf, idOf, hasRegistry, LookedUp, standingOf, wellPair}
+use Rattle.ledger_step.specs.Ledgers.{LookedUp, standingOf, wellPair}
 use Rattle.ledger_lookup.specs.declared.lookup.LookedUp as Code
 
 -- a key, from its two parts
 abbrev pub keyPair : Said → Said → Pair
 keyPair registry credential = record { registry = registry; credential = credential }
-
--- the registry of every row is held
-unfoldable pub rowsHeld : List RegistryState → ℕ → List CredentialState → ℕ → Bool
-rowsHeld gs m ws n = all (hasRegistry (map idOf (map heldOf (take m gs)))) (take n ws)
 
 -- what the code's look-up answers stands for
 abbrev pub viewLookedUp : Code.LookedUp → LookedUp

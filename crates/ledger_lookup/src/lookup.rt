@@ -1,63 +1,16 @@
 // The standing of a credential, by its key (docs/RULES.md, "Look-up").
 use cesr::number::Sn;
 use cesr::primitive::Said;
-use ledger_registries::registries::find_registry;
-use ledger_registries::registries::registries_sound;
 use ledger_rows::rows::find_at;
 use ledger_rows::rows::read_row;
-use ledger_rows::rows::rows_sound;
-use ledger_step::number::lesser;
 use registry_state::state::CredentialState;
 use registry_state::state::RegistryState;
 ghost use mathlib.Core.Path.{_≡_};
-ghost use Prim.Native.Nat.{min};
 ghost use mathlib.Core.Bool.{_&&_};
 ghost use lib.Dec.{eqb, ltb};
 ghost use Rattle.cesr.specs.Numbers.{value};
 ghost use Rattle.ledger_step.specs.Ledgers.{lentLedger, sound, wellPair, lookUp};
-ghost use Rattle.ledger_lookup.specs.Lookups.{rowsHeld, viewLookedUp, keyPair, lookedUpOf};
-
-// Whether a search among the first `count` of `len` states ended before the last of them.
-fn is_found(at: usize, count: usize, len: usize) -> bool
-    ensures { λ r. ⌜ r ≡ ltb at (min count len) ⌝ }
-{
-    (at < count) & (at < len)
-}
-
-// Whether the registry of each of the first `row_count` rows is among the first `registry_count` registries.
-pub fn rows_held<'a>(
-    registries: &'a [RegistryState],
-    registry_count: usize,
-    rows: &'a [CredentialState],
-    row_count: usize,
-) -> bool
-    ensures { λ r. ⌜ r ≡ rowsHeld (now (registries .entry)) «registry_count» (now (rows .entry)) «row_count» ⌝ }
-{
-    let n = lesser(row_count, rows.len());
-    let mut i = 0;
-    while i < n {
-        let row = rows[i];
-        let at = find_registry(registries, registry_count, row.registry);
-        if !is_found(at, registry_count, registries.len()) {
-            return false;
-        }
-        i += 1;
-    }
-    true
-}
-
-// Whether a ledger keeps to every reading rule.
-pub fn sound<'a>(
-    registries: &'a [RegistryState],
-    registry_count: usize,
-    rows: &'a [CredentialState],
-    row_count: usize,
-) -> bool
-    ensures { λ r. ⌜ r ≡ sound (lentLedger (now (registries .entry)) «registry_count» (now (rows .entry)) «row_count») ⌝ }
-{
-    registries_sound(registries, registry_count)
-        & (rows_sound(rows, row_count) & rows_held(registries, registry_count, rows, row_count))
-}
+ghost use Rattle.ledger_lookup.specs.Lookups.{viewLookedUp, keyPair, lookedUpOf};
 
 // What a look-up answers: 0 or the refusal 1, and 1 Issued, 2 Revoked, 3 Unknown, or 0 after a refusal.
 pub struct LookedUp {

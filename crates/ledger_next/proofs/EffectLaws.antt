@@ -17,7 +17,7 @@ use Rattle.registry_state.specs.declared.state.CredentialState.{CredentialState
 use Rattle.registry_wire.specs.Attempts.{Message, Decoded, decodeOf}
 use Rattle.registry_wire.specs.Attempts.Decoded.{malformed, decoded}
 use Rattle.registry_error.specs.Errors.{numberOf}
-use Rattle.registry_error.specs.Answers.{acceptIf, firstOf}
+use Rattle.registry_answer.specs.Answers.{acceptIf, firstOf}
 use Rattle.registry_error.specs.declared.error.Answer.{Answer}
 use Rattle.registry_error.specs.declared.error.Answer.the-variants.{Accepted, Rejected}
 use Rattle.registry_error.specs.declared.error.RegistryRejection.the-variants.{Malformed, NoRoom}
@@ -34,7 +34,7 @@ use Rattle.ledger_step.proofs.TableLaws.{all-find}
 use Rattle.ledger_step.proofs.Rules.{Keeps, parts}
 use Rattle.ledger_asked.specs.declared.call.Named.{Named}
 use Rattle.ledger_asked.specs.Names.{namedOf}
-use Rattle.ledger_asked.specs.Checks.{askedAnswer, inceptionAnswer, rotationAnswer, issueAnswer, revocationAnswer}
+use Rattle.ledger_answers.specs.Checks.{askedAnswer, inceptionAnswer, rotationAnswer, issueAnswer, revocationAnswer}
 use Rattle.ledger_next.specs.Effects.{inceptionNamed, rotationNamed, issueNamed, revocationNamed, pairNamed, kindEffect, effectNamed}
 
 -- ---- a request that was read: the refusal is one of those that are checked before every fold, or the message is the one that was read

@@ -9,11 +9,11 @@ use borrow.Author.Tests.{eq-eqb, ne-eqb}
 use lib.Dec.{ltb}
 use Rattle.registry_state.specs.declared.state.RegistryState.{RegistryState}
 use Rattle.registry_state.specs.declared.state.CredentialState.{CredentialState}
-use Rattle.registry_error.specs.Answers.{accepts}
+use Rattle.registry_answer.specs.Answers.{accepts}
 use Rattle.registry_error.specs.declared.error.Answer.{Answer}
 use Rattle.ledger_asked.specs.declared.call.Named.{Named}
 use Rattle.ledger_next.specs.declared.call.Next.{Next}
-use Rattle.ledger_asked.specs.Checks.{askedAnswer}
+use Rattle.ledger_answers.specs.Checks.{askedAnswer}
 use Rattle.ledger_next.specs.Effects.{inceptionNamed, rotationNamed, issueNamed, revocationNamed, pairNamed, kindEffect, effectNamed, Leaves}
 use Rattle.ledger_next.proofs.Left.{leaves-all, leaves-change}
 

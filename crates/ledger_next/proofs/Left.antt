@@ -12,11 +12,11 @@ use Rattle.cesr.specs.declared.primitive.Said.{Said}
 use Rattle.registry_state.specs.States.{Registry, viewRegistry, wellRegistry}
 use Rattle.registry_state.specs.declared.state.RegistryState.{RegistryState}
 use Rattle.registry_state.specs.declared.state.CredentialState.{CredentialState}
-use Rattle.registry_error.specs.Answers.{accepts}
+use Rattle.registry_answer.specs.Answers.{accepts}
 use Rattle.registry_error.specs.declared.error.Answer.{Answer}
 use Rattle.registry_error.specs.declared.error.Answer.the-variants.{Accepted, Rejected}
 use Rattle.registry_error.specs.declared.error.RegistryRejection.the-variants.{NoRoom}
-use Rattle.registry_error.proofs.AnswerLaws.{passed}
+use Rattle.registry_answer.proofs.AnswerLaws.{passed}
 use Rattle.registry_inception.specs.InceptionFolds as N
 use Rattle.registry.specs.RegistryFolds as R
 use Rattle.registry_inception.specs.declared.registry.RegistryOutcome.{RegistryOutcome}
@@ -29,7 +29,7 @@ use Rattle.ledger_step.specs.Ledgers.{heldOf}
 use Rattle.ledger_step.specs.Steps.{Effect, afterFold, heldNow}
 use Rattle.ledger_step.specs.Steps.Effect.{newRegistry, setRegistry, newRow, setRow}
 use Rattle.ledger_next.specs.declared.call.Next.{Next}
-use Rattle.ledger_asked.specs.Checks.{inceptionAnswer, rotationAnswer, issueAnswer, revocationAnswer}
+use Rattle.ledger_answers.specs.Checks.{inceptionAnswer, rotationAnswer, issueAnswer, revocationAnswer}
 use Rattle.ledger_next.specs.Effects.{inceptionNamed, rotationNamed, issueNamed, revocationNamed, Leaves}
 
 -- an answer that accepts

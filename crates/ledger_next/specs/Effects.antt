@@ -18,7 +18,7 @@ use Rattle.ledger_step.specs.Ledgers.{heldOf}
 use Rattle.ledger_step.specs.Steps.{Effect, afterFold, heldNow}
 use Rattle.ledger_step.specs.Steps.Effect.{refuse, newRegistry, setRegistry, newRow, setRow}
 use Rattle.ledger_asked.specs.declared.call.Named.{Named}
-use Rattle.ledger_asked.specs.Checks.{askedAnswer, inceptionAnswer, rotationAnswer, issueAnswer, revocationAnswer}
+use Rattle.ledger_answers.specs.Checks.{askedAnswer, inceptionAnswer, rotationAnswer, issueAnswer, revocationAnswer}
 use Rattle.ledger_next.specs.declared.call.Next.{Next}
 
 -- the four folds, each behind what is checked before it

@@ -1,14 +1,14 @@
 // What an attempt leaves of the registry and the row that it names (docs/RULES.md, "Ledger", "Next states"). Each function hands back what was handed in, but for the one state that an accepted attempt changes.
 use crate::call::Next;
-use ledger_asked::answers::asked_answer;
-use ledger_asked::answers::inception_answer;
-use ledger_asked::answers::issue_answer;
-use ledger_asked::answers::revocation_answer;
-use ledger_asked::answers::rotation_answer;
+use ledger_answers::answers::asked_answer;
+use ledger_answers::answers::inception_answer;
+use ledger_answers::answers::issue_answer;
+use ledger_answers::answers::revocation_answer;
+use ledger_answers::answers::rotation_answer;
 use ledger_asked::call::Named;
 use registry::registry::ingest as ingest_registry;
+use registry_answer::answer::accepts;
 use registry_credential_state::credential_state::ingest as ingest_credential;
-use registry_error::answer::accepts;
 use registry_error::error::Answer;
 use registry_inception::registry::incept_with_evidence;
 use registry_issue::credential_state::incept as incept_credential;

@@ -1,4 +1,3 @@
 pub mod Find
 pub mod Places
 pub mod RegistryViews
-pub mod Sound

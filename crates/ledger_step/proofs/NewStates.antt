@@ -14,9 +14,9 @@ use Rattle.events_tel.specs.TelEvents.Event.{vcp, vrt, iss, rev, bis, brv}
 use Rattle.registry_state.specs.States.{Registry, wellCredential}
 use Rattle.registry_state.specs.declared.state.CredentialState.{CredentialState}
 use Rattle.registry_wire.specs.Attempts.{Message}
-use Rattle.registry_error.specs.Answers.{accepts, acceptIf}
+use Rattle.registry_answer.specs.Answers.{accepts, acceptIf}
 use Rattle.registry_error.specs.declared.error.RegistryRejection.the-variants.{InconsistentRegistry}
-use Rattle.registry_error.proofs.AnswerLaws.{or-second, passed}
+use Rattle.registry_answer.proofs.AnswerLaws.{or-second, passed}
 use Rattle.registry_authentication.specs.Issuers.{issuerKind}
 use Rattle.registry_inception.specs.InceptionFolds as N
 use Rattle.registry_issue.specs.IssueFolds as I

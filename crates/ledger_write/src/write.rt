@@ -1,5 +1,5 @@
 // A ledger's image, written to the start of a buffer: the section of its registries, and behind it the section of its credentials (docs/RULES.md, "Image").
-use ledger_lookup::lookup::sound;
+use ledger_check::check::sound;
 use ledger_registry_image::registries::registries_size;
 use ledger_registry_image::registries::write_registries;
 use ledger_row_image::row_image::write_rows;

@@ -21,7 +21,7 @@ use Rattle.registry_wire.specs.Attempts.{Message, goodMessage, viewAttempt, vie
 use Rattle.registry_seals.specs.SignatureSections.{Signature}
 use Rattle.registry_wire.specs.declared.attempt.Attempt.{Attempt}
 use Rattle.registry_wire.specs.declared.attempt.DecodedAttempt.{DecodedAttempt}
-use Rattle.registry_error.specs.Answers.{accepts, acceptIf, orElse, firstOf}
+use Rattle.registry_answer.specs.Answers.{accepts, acceptIf, orElse, firstOf}
 use Rattle.registry_error.specs.declared.error.Answer.{Answer}
 use Rattle.registry_error.specs.declared.error.Answer.the-variants.{Accepted, Rejected}
 use Rattle.registry_error.specs.declared.error.RegistryRejection.{RegistryRejection}
@@ -33,7 +33,7 @@ use Rattle.registry_inception.specs.InceptionFolds.{thresholdFits}
 use Rattle.registry.specs.RegistryFolds.{vrtBackers, vrtAnswer, ingestEvent, rotated, ingestMessage, ingestDecoded, ingestOf, Ingested}
 use Rattle.registry_verification.specs.Sequence.{nextSn}
 use Rattle.registry_inception.specs.declared.registry.RegistryOutcome.{RegistryOutcome}
-use Rattle.registry_error.proofs.AnswerLaws.{or-first, or-second, passed}
+use Rattle.registry_answer.proofs.AnswerLaws.{or-first, or-second, passed}
 use Rattle.registry_inception.proofs.WellLaws.{Lettered}
 use Rattle.registry.proofs.WellLaws.{good-rotated}
 use Rattle.registry_inception.proofs.InceptionLaws.{good-event}

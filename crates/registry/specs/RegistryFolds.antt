@@ -21,7 +21,7 @@ use Rattle.registry_wire.specs.declared.attempt.Attempt.{Attempt}
 use Rattle.registry_error.specs.declared.error.RegistryRejection.the-variants.{Malformed, DuplicateInception, NotManagementRotation, InconsistentRegistry, RotationOnBackerlessRegistry, PriorDigestMismatch, TooManyBackers}
 use Rattle.registry_error.specs.declared.error.Answer.{Answer}
 use Rattle.registry_error.specs.declared.error.Answer.the-variants.{Rejected}
-use Rattle.registry_error.specs.Answers.{accepts, acceptIf, backerSet, firstOf}
+use Rattle.registry_answer.specs.Answers.{accepts, acceptIf, backerSet, firstOf}
 use Rattle.registry_verification.specs.Sequence.{nextSn}
 use Rattle.registry_verification.specs.Updated.{updatedMembers}
 use Rattle.registry_authentication.specs.Issuers.{authenticateIssuer}

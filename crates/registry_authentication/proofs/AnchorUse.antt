@@ -29,7 +29,7 @@ use Rattle.registry_wire.specs.declared.attempt.Attempt.{Attempt}
 use Rattle.registry_wire.specs.declared.attempt.DecodedAttempt.{DecodedAttempt}
 use Rattle.registry_wire.proofs.AnchorLaws.{used-event, part-bytes}
 use Rattle.registry_wire.proofs.CodesAttempt.{decodes}
-use Rattle.registry_error.specs.Answers.{firstOf}
+use Rattle.registry_answer.specs.Answers.{firstOf}
 use Rattle.registry_authentication.specs.Issuers.{Anchored, anchored, anchoredIn, authenticateIssuer, authenticateIn}
 use Rattle.registry_authentication.proofs.AnchorTie.{anchored-in}
 

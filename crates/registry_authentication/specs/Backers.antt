@@ -11,7 +11,7 @@ use Rattle.cesr.specs.declared.number.Sn.{Sn}
 use Rattle.cesr.specs.declared.primitive.Said.{Said}
 use Rattle.events.specs.Identifiers.{matterOf}
 use Rattle.events.specs.Members.{checkMembers}
-use Rattle.events.specs.Toads.{exactOk}
+use Rattle.events_toad.specs.Toads.{exactOk}
 use Rattle.events_tel.specs.Configs.{noBackers}
 use Rattle.events.specs.declared.seal.Seal.{Seal}
 use Rattle.events.specs.declared.seal.Seal.the-variants.{Digest, Root, Source, Event, Last, Back, Kind, Opaque}
@@ -22,7 +22,7 @@ use Rattle.registry_wire.specs.Attempts.Evidence.{missing, issuer, backer, back
 use Rattle.registry_error.specs.declared.error.RegistryRejection.the-variants.{InconsistentRegistry, InconsistentIssuer, InconsistentManagement, UnresolvedAnchor, BackerThreshold, MissingBackerReceipts}
 use Rattle.registry_error.specs.declared.error.Answer.{Answer}
 use Rattle.registry_error.specs.declared.error.Answer.the-variants.{Rejected}
-use Rattle.registry_error.specs.Answers.{acceptIf, backerSet, orElse, firstOf}
+use Rattle.registry_answer.specs.Answers.{acceptIf, backerSet, orElse, firstOf}
 use Rattle.registry_verification.specs.Receipts.{receipts}
 
 -- a registry is backerless by its trait NoBackers, never by its list

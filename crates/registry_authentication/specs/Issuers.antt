@@ -19,7 +19,7 @@ use Rattle.registry_wire.specs.declared.attempt.Source.{Source}
 use Rattle.registry_error.specs.declared.error.RegistryRejection.the-variants.{MissingIssuer, InconsistentIssuer, MissingAnchor, InconsistentAnchor}
 use Rattle.registry_error.specs.declared.error.Answer.{Answer}
 use Rattle.registry_error.specs.declared.error.Answer.the-variants.{Accepted, Rejected}
-use Rattle.registry_error.specs.Answers.{acceptIf, firstOf}
+use Rattle.registry_answer.specs.Answers.{acceptIf, firstOf}
 
 -- 18 or 19: the evidence that is due is Issuer
 abbrev pub issuerKind : Evidence → Answer

@@ -2,8 +2,8 @@
 use cesr::number::Sn;
 use cesr::primitive::Matter;
 use cesr::primitive::Said;
-use registry_error::answer::accept_if;
-use registry_error::answer::or_else;
+use registry_answer::answer::accept_if;
+use registry_answer::answer::or_else;
 use registry_error::error::Answer;
 use registry_error::error::RegistryRejection;
 use registry_seals::seals::anchor_seals;

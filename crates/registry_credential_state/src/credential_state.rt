@@ -2,14 +2,14 @@
 use cesr::number::Sn;
 use cesr::primitive::Said;
 use events_tel::tel::Kind;
+use registry_answer::answer::accept_if;
+use registry_answer::answer::accepts;
+use registry_answer::answer::or_else;
 use registry_authentication::backer::authenticate_backer;
 use registry_authentication::backer::is_backerless;
 use registry_authentication::backer::names_registry;
 use registry_authentication::issuer::authenticate_issuer;
 use registry_authentication::issuer::message_anchored;
-use registry_error::answer::accept_if;
-use registry_error::answer::accepts;
-use registry_error::answer::or_else;
 use registry_error::error::Answer;
 use registry_error::error::RegistryRejection;
 use registry_issue::credential_state::CredentialOutcome;

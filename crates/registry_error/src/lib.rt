@@ -1,3 +1,2 @@
 // Why an attempt is turned down.
-pub mod answer;
 pub mod error;

@@ -19,13 +19,13 @@ use Rattle.registry_wire.specs.Attempts.{Message, goodSource, goodAnchors, good
 use Rattle.registry_seals.specs.SignatureSections.{goodSignature}
 use Rattle.registry_wire.specs.declared.attempt.Attempt.{Attempt}
 use Rattle.registry_wire.specs.declared.attempt.DecodedAttempt.{DecodedAttempt}
-use Rattle.registry_error.specs.Answers.{accepts}
+use Rattle.registry_answer.specs.Answers.{accepts}
 use Rattle.registry_error.specs.declared.error.Answer.{Answer}
 use Rattle.registry_error.specs.declared.error.Answer.the-variants.{Rejected}
 use Rattle.registry_error.specs.declared.error.RegistryRejection.the-variants.{Malformed}
 use Rattle.registry_authentication.specs.Issuers.{issuerKind}
 use Rattle.registry_inception.specs.InceptionFolds.{inceptEvent, inceptAnswer, incepted, inceptMessage, inceptOf}
-use Rattle.registry_error.proofs.AnswerLaws.{or-second}
+use Rattle.registry_answer.proofs.AnswerLaws.{or-second}
 use Rattle.registry_inception.proofs.WellLaws.{Lettered, good-incepted}
 
 pub good-event : (m : Message) → goodMessage m ≡ true → goodEvent (m .event) ≡ true

@@ -11,14 +11,14 @@ use Rattle.events_tel.specs.Configs.{noBackers}
 use Rattle.events.specs.Members.{checkMembers}
 use Rattle.events_tel.specs.TelEvents.{Event, snZero}
 use Rattle.events_tel.specs.TelEvents.Event.{vcp, vrt, iss, rev, bis, brv}
-use Rattle.events.specs.Toads.{exactOk}
+use Rattle.events_toad.specs.Toads.{exactOk}
 use Rattle.registry_state.specs.States.{Registry, viewRegistry, noRegistry}
 use Rattle.registry_wire.specs.Attempts.{Message, Decoded, decodeOf}
 use Rattle.registry_wire.specs.Attempts.Decoded.{malformed, decoded}
 use Rattle.registry_error.specs.declared.error.RegistryRejection.the-variants.{Malformed, NotRegistryInception, NoBackersWithBackers, InconsistentIssuer, BackerThreshold}
 use Rattle.registry_error.specs.declared.error.Answer.{Answer}
 use Rattle.registry_error.specs.declared.error.Answer.the-variants.{Rejected}
-use Rattle.registry_error.specs.Answers.{accepts, acceptIf, backerSet, orElse, firstOf}
+use Rattle.registry_answer.specs.Answers.{accepts, acceptIf, backerSet, orElse, firstOf}
 use Rattle.registry_authentication.specs.Issuers.{issuerKind, namesIssuer, anchored}
 use Rattle.registry_authentication.specs.Backers.{enoughReceipts}
 use Rattle.registry_inception.specs.declared.registry.RegistryOutcome.{RegistryOutcome}

@@ -8,10 +8,10 @@ use mathlib.Core.Bool.{true, false≢true}
 use Rattle.events.specs.Members.{orElse}
 use Rattle.events.specs.declared.member_set.Membership.{Membership}
 use Rattle.events.specs.declared.member_set.Membership.the-variants.{Sound, Broken}
-use Rattle.registry_error.specs.Answers.{accepts, backerSet, firstOf}
+use Rattle.registry_answer.specs.Answers.{accepts, backerSet, firstOf}
 use Rattle.registry_error.specs.declared.error.Answer.{Answer}
 use Rattle.registry_verification.specs.Starred.{All}
-use Rattle.registry_error.proofs.AnswerLaws.{or-first, or-second}
+use Rattle.registry_answer.proofs.AnswerLaws.{or-first, or-second}
 
 pub all-accept : (l : List Answer) → accepts (firstOf l) ≡ true → All (λ x. accepts x ≡ true) l
 unfolding firstOf

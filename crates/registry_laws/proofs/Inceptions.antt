@@ -12,18 +12,18 @@ use Rattle.cesr.specs.declared.primitive.Said.{Said}
 use Rattle.cesr.specs.declared.primitive.BasicPrefix.{BasicPrefix}
 use Rattle.events_tel.specs.Configs.{noBackers}
 use Rattle.events.specs.Members.{checkMembers}
-use Rattle.events.specs.Toads.{exactOk}
+use Rattle.events_toad.specs.Toads.{exactOk}
 use Rattle.events_tel.specs.TelEvents.{Event}
 use Rattle.events_tel.specs.TelEvents.Event.{vcp, vrt, iss, rev, bis, brv}
 use Rattle.registry_state.specs.States.{noRegistry}
 use Rattle.registry_wire.specs.Attempts.{Message, Decoded, decodeOf}
 use Rattle.registry_wire.specs.Attempts.Decoded.{malformed, decoded}
-use Rattle.registry_error.specs.Answers.{accepts}
+use Rattle.registry_answer.specs.Answers.{accepts}
 use Rattle.registry_error.specs.declared.error.Answer.the-variants.{Rejected}
 use Rattle.registry_error.specs.declared.error.RegistryRejection.the-variants.{Malformed, NoBackersWithBackers, BackerThreshold}
 use Rattle.registry_authentication.specs.Issuers.{issuerKind}
 use Rattle.registry_inception.specs.InceptionFolds.{Outcome, thresholdFits, vcpAnswer, inceptEvent, inceptAnswer, incepted, inceptMessage, inceptDecoded, inceptOf}
-use Rattle.registry_error.proofs.AnswerLaws.{or-second, passed}
+use Rattle.registry_answer.proofs.AnswerLaws.{or-second, passed}
 use Rattle.registry_laws.specs.ReadingRules.{soundRegistry}
 use Rattle.registry_laws.proofs.Chains.{all-accept, set-sound}
 

@@ -14,11 +14,11 @@ use Rattle.registry_state.specs.States.{Registry, viewRegistry, wellRegistry, n
 use Rattle.registry_state.specs.declared.state.RegistryState.{RegistryState}
 use Rattle.registry_wire.specs.Attempts.{Message, Decoded, decodeOf}
 use Rattle.registry_wire.specs.Attempts.Decoded.{malformed, decoded}
-use Rattle.registry_error.specs.Answers.{accepts, acceptIf}
+use Rattle.registry_answer.specs.Answers.{accepts, acceptIf}
 use Rattle.registry_error.specs.declared.error.Answer.the-variants.{Rejected}
 use Rattle.registry_error.specs.declared.error.RegistryRejection.the-variants.{Malformed, InconsistentRegistry}
 use Rattle.registry_issue.specs.IssueFolds.{Outcome, issAnswer, bisAnswer, inceptEvent, issued, inceptMessage, inceptDecoded, inceptOf}
-use Rattle.registry_error.proofs.AnswerLaws.{passed}
+use Rattle.registry_answer.proofs.AnswerLaws.{passed}
 use Rattle.registry_laws.specs.Pairs.{Pair, pairOf, pairDecoded, pairOfBytes, keyOf}
 use Rattle.registry_laws.proofs.Chains.{all-accept}
 

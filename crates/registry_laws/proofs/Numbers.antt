@@ -12,11 +12,11 @@ use Rattle.cesr.specs.Numbers.{value}
 use Rattle.cesr.specs.declared.number.Sn.{Sn}
 use Rattle.cesr.proofs.Words.{value-words, value-fits}
 use Rattle.codec.specs.Layout.{goodSn}
-use Rattle.registry_error.specs.Answers.{accepts, acceptIf}
+use Rattle.registry_answer.specs.Answers.{accepts, acceptIf}
 use Rattle.registry_error.specs.declared.error.Answer.the-variants.{Rejected}
 use Rattle.registry_error.specs.declared.error.RegistryRejection.the-variants.{SequenceNumberOverflow, OutOfOrder}
 use Rattle.registry_verification.specs.Sequence.{snBehind, nextSn}
-use Rattle.registry_error.proofs.AnswerLaws.{passed}
+use Rattle.registry_answer.proofs.AnswerLaws.{passed}
 
 good-below : (n : Sn) → goodSn n ≡ true → value n < 2 ^ 128
 unfolding goodSn

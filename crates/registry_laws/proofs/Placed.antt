@@ -15,7 +15,7 @@ use Rattle.events.specs.declared.member_set.Rule.{Rule}
 use Rattle.events.specs.declared.member_set.Membership.{Membership}
 use Rattle.events.specs.declared.member_set.Membership.the-variants.{Sound, Broken}
 use Rattle.events.proofs.Members.{broken-rule, broken-below, broken-breaks}
-use Rattle.registry_error.specs.Answers.{acceptIf, backerSet, orElse, firstOf}
+use Rattle.registry_answer.specs.Answers.{acceptIf, backerSet, orElse, firstOf}
 use Rattle.registry_error.specs.Errors.{numberOf, answerNumber}
 use Rattle.registry_error.specs.declared.error.Answer.{Answer}
 use Rattle.registry_error.specs.declared.error.Answer.the-variants.{Accepted, Rejected}

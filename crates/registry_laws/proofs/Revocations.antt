@@ -31,14 +31,14 @@ use Rattle.registry_state.specs.declared.state.CredentialState.{CredentialState
 use Rattle.registry_wire.specs.Attempts.{Message, Decoded, decodeOf}
 use Rattle.registry_wire.specs.Attempts.Decoded.{malformed, decoded}
 use Rattle.registry_wire.proofs.CodesAttempt.{decodes}
-use Rattle.registry_error.specs.Answers.{accepts, acceptIf}
+use Rattle.registry_answer.specs.Answers.{accepts, acceptIf}
 use Rattle.registry_error.specs.declared.error.Answer.the-variants.{Rejected}
 use Rattle.registry_error.specs.declared.error.RegistryRejection.the-variants.{Malformed, InconsistentRegistry, InconsistentCredential}
 use Rattle.registry_authentication.specs.Backers.{namesRegistry}
 use Rattle.registry_issue.specs.IssueFolds.{Outcome}
 use Rattle.registry_credential_state.specs.CredentialFolds.{transition, revAnswer, brvAnswer, ingestEvent, ingestAnswer, revoked, ingestMessage, ingestDecoded, ingestOf}
 use Rattle.registry_verification.specs.Sequence.{nextSn}
-use Rattle.registry_error.proofs.AnswerLaws.{or-first, or-second, passed}
+use Rattle.registry_answer.proofs.AnswerLaws.{or-first, or-second, passed}
 use Rattle.registry_inception.proofs.InceptionLaws.{good-event}
 use Rattle.registry.proofs.WellLaws.{well-view}
 use Rattle.registry_laws.specs.Pairs.{Pair, pairUnder, pairIn, pairOf, pairDecoded, pairOfBytes, keyOf}

@@ -16,7 +16,7 @@ use Rattle.cesr.specs.declared.primitive.Said.{Said}
 use Rattle.cesr.specs.declared.primitive.BasicPrefix.{BasicPrefix}
 use Rattle.events_tel.specs.Configs.{noBackers}
 use Rattle.events.specs.Members.{checkMembers, checkDeltas, checkCurrent}
-use Rattle.events.specs.Toads.{exactOk}
+use Rattle.events_toad.specs.Toads.{exactOk}
 use Rattle.events_tel.specs.TelEvents.{Event}
 use Rattle.events_tel.specs.TelEvents.Event.{vcp, vrt, iss, rev, bis, brv}
 use Rattle.codec.specs.Layout.{goodSn}
@@ -24,13 +24,13 @@ use Rattle.registry_state.specs.States.{Registry, viewRegistry, wellRegistry}
 use Rattle.registry_state.specs.declared.state.RegistryState.{RegistryState}
 use Rattle.registry_wire.specs.Attempts.{Message, Decoded, decodeOf}
 use Rattle.registry_wire.specs.Attempts.Decoded.{malformed, decoded}
-use Rattle.registry_error.specs.Answers.{accepts, backerSet}
+use Rattle.registry_answer.specs.Answers.{accepts, backerSet}
 use Rattle.registry_error.specs.declared.error.Answer.the-variants.{Rejected}
 use Rattle.registry_error.specs.declared.error.RegistryRejection.the-variants.{Malformed, RotationOnBackerlessRegistry, BackerThreshold}
 use Rattle.registry_verification.specs.Updated.{updatedMembers}
 use Rattle.registry_inception.specs.InceptionFolds.{Outcome, thresholdFits}
 use Rattle.registry.specs.RegistryFolds.{vrtBackers, vrtAnswer, ingestEvent, rotated, ingestMessage, ingestDecoded, ingestOf}
-use Rattle.registry_error.proofs.AnswerLaws.{passed}
+use Rattle.registry_answer.proofs.AnswerLaws.{passed}
 use Rattle.registry_laws.specs.ReadingRules.{soundRegistry}
 use Rattle.registry_laws.specs.States.{OneRegistry}
 use Rattle.registry_laws.proofs.Chains.{all-accept, set-sound}

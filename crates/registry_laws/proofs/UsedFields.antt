@@ -20,7 +20,7 @@ use Rattle.registry_wire.specs.Attempts.{Message, Evidence, Decoded, decodeOf}
 use Rattle.registry_seals.specs.SignatureSections.{Signature}
 use Rattle.registry_wire.specs.Attempts.Decoded.{malformed, decoded}
 use Rattle.registry_wire.specs.Attempts.Evidence.{missing, issuer, backer, backerAt}
-use Rattle.registry_error.specs.Answers.{acceptIf, orElse, firstOf}
+use Rattle.registry_answer.specs.Answers.{acceptIf, orElse, firstOf}
 use Rattle.registry_error.specs.declared.error.Answer.{Answer}
 use Rattle.registry_error.specs.declared.error.Answer.the-variants.{Accepted, Rejected}
 use Rattle.registry_error.specs.declared.error.RegistryRejection.the-variants.{Malformed, InconsistentRegistry}

@@ -4,9 +4,9 @@ use lib.Dec.{eqb}
 use lib.ListN.{length}
 use Rattle.events_tel.specs.Configs.{noBackers}
 use Rattle.events.specs.Members.{checkMembers}
-use Rattle.events.specs.Toads.{exactOk}
+use Rattle.events_toad.specs.Toads.{exactOk}
 use Rattle.registry_state.specs.States.{Registry}
-use Rattle.registry_error.specs.Answers.{accepts, backerSet}
+use Rattle.registry_answer.specs.Answers.{accepts, backerSet}
 
 -- no two backers are equal; `Toad::exact` passes the toad with their number; with the trait NoBackers there are none
 unfoldable pub soundRegistry : Registry → Bool

@@ -7,7 +7,7 @@ use Rattle.cesr.specs.declared.number.Sn.{Sn}
 use Rattle.registry_error.specs.declared.error.RegistryRejection.the-variants.{SequenceNumberOverflow, OutOfOrder}
 use Rattle.registry_error.specs.declared.error.Answer.{Answer}
 use Rattle.registry_error.specs.declared.error.Answer.the-variants.{Rejected}
-use Rattle.registry_error.specs.Answers.{acceptIf}
+use Rattle.registry_answer.specs.Answers.{acceptIf}
 
 -- the sn that comes behind another
 abbrev pub snBehind : Sn → Sn

@@ -5,8 +5,8 @@ use mathlib.Core.Logic.{_≢_}
 use mathlib.Core.List.{List, [], _∷_}
 use Rattle.cesr.specs.Numbers.{snOf}
 use Rattle.cesr.specs.declared.primitive.BasicPrefix.{BasicPrefix}
-use Rattle.events.specs.Toads.{toadOf, exactOf, ampleOf}
-use Rattle.events.specs.declared.toad.ToadResult.the-variants.{Valid, OutOfRange}
+use Rattle.events_toad.specs.Toads.{toadOf, exactOf, ampleOf}
+use Rattle.events_toad.specs.declared.toad.ToadResult.the-variants.{Valid, OutOfRange}
 use Rattle.registry_error.specs.Errors.{dispositionOf}
 use Rattle.registry_error.specs.declared.error.RegistryRejection.the-variants.{OutOfOrder}
 use Rattle.registry_error.specs.declared.error.Disposition.the-variants.{Contested, Awaiting}

@@ -1,6 +1,6 @@
 // The place of an event behind a state (docs/RULES.md, "Refusals").
 use cesr::number::Sn;
-use registry_error::answer::accept_if;
+use registry_answer::answer::accept_if;
 use registry_error::error::Answer;
 use registry_error::error::RegistryRejection;
 ghost use mathlib.Core.Path.{_≡_};

@@ -72,10 +72,10 @@ use Rattle.ledger_next.proofs.call.Next as X
 use Rattle.ledger_next.proofs.call.Next.Laws as X′
 use Rattle.ledger_apply.proofs.apply.Applied as A₀
 use Rattle.ledger_apply.proofs.apply.Applied.Laws as A′
-use Rattle.ledger_lookup.proofs.lookup.sound as check
-use Rattle.ledger_lookup.proofs.lookup.sound.Symbol as check-def
-use Rattle.ledger_lookup.proofs.lookup.sound.Symbol.{name as #check}
-use Rattle.ledger_lookup.proofs.lookup.sound.Met as check-thm
+use Rattle.ledger_check.proofs.check.sound as check
+use Rattle.ledger_check.proofs.check.sound.Symbol as check-def
+use Rattle.ledger_check.proofs.check.sound.Symbol.{name as #check}
+use Rattle.ledger_check.proofs.check.sound.Met as check-thm
 use Rattle.ledger_asked.proofs.asked.named as ask
 use Rattle.ledger_asked.proofs.asked.named.Symbol as ask-def
 use Rattle.ledger_asked.proofs.asked.named.Symbol.{name as #ask}
@@ -762,7 +762,7 @@ apply-spec 𝓤 H 𝓜 𝓖 𝓡 =
     entered 𝓤 H (tripleOf 𝓤 H (𝓖 .A) me.signature (me.spec 𝓤 H (𝓖 .A) (𝓜 .mem) (𝓡 .run)))
     (tables 𝓤 H 𝓜 𝓡 code.env .C) (tables 𝓤 H 𝓜 𝓡 code.env .Λ) #me code.function (code.unfolded 𝓤 H 𝓜 𝓡)
     (me-meets 𝓤 H (𝓖 .A) (givenOf 𝓤 H 𝓜 𝓖) (𝓜 .mem) (𝓡 .run) (tablesOf 𝓤 H 𝓜 (tables 𝓤 H 𝓜 𝓡 code.env))
-    (cited 𝓤 H (Sound 𝓤 H (𝓖 .A) (𝓜 .mem) (𝓡 .run)) 𝓜 𝓡 code.env #check check-def.routine code.calls-ledger-lookup·lookup·sound (check-thm.met 𝓤 H 𝓜 𝓖 𝓡))
+    (cited 𝓤 H (Sound 𝓤 H (𝓖 .A) (𝓜 .mem) (𝓡 .run)) 𝓜 𝓡 code.env #check check-def.routine code.calls-ledger-check·check·sound (check-thm.met 𝓤 H 𝓜 𝓖 𝓡))
     (cited 𝓤 H (Names 𝓤 H (𝓖 .A) (𝓜 .mem) (𝓡 .run)) 𝓜 𝓡 code.env #ask ask-def.routine code.calls-ledger-asked·asked·named (ask-thm.met 𝓤 H 𝓜 𝓖 𝓡))
     (cited 𝓤 H (FindRegistry 𝓤 H (𝓖 .A) (𝓜 .mem) (𝓡 .run)) 𝓜 𝓡 code.env #seek seek-def.routine code.calls-ledger-registries·registries·find-registry (seek-thm.met 𝓤 H 𝓜 𝓖 𝓡))
     (cited 𝓤 H (ReadRegistry 𝓤 H (𝓖 .A) (𝓜 .mem) (𝓡 .run)) 𝓜 𝓡 code.env #fetch fetch-def.routine code.calls-ledger-registries·registries·read-registry (fetch-thm.met 𝓤 H 𝓜 𝓖 𝓡))

@@ -54,10 +54,10 @@ use Rattle.registry_state.proofs.state.CredentialState as T
 use Rattle.registry_state.proofs.state.CredentialState.Laws as T′
 use Rattle.ledger_lookup.proofs.lookup.LookedUp as P
 use Rattle.ledger_lookup.proofs.lookup.LookedUp.Laws as P′
-use Rattle.ledger_lookup.proofs.lookup.sound as check
-use Rattle.ledger_lookup.proofs.lookup.sound.Symbol as check-def
-use Rattle.ledger_lookup.proofs.lookup.sound.Symbol.{name as #check}
-use Rattle.ledger_lookup.proofs.lookup.sound.Met as check-thm
+use Rattle.ledger_check.proofs.check.sound as check
+use Rattle.ledger_check.proofs.check.sound.Symbol as check-def
+use Rattle.ledger_check.proofs.check.sound.Symbol.{name as #check}
+use Rattle.ledger_check.proofs.check.sound.Met as check-thm
 use Rattle.ledger_rows.proofs.rows.find_at as find
 use Rattle.ledger_rows.proofs.rows.find_at.Symbol as find-def
 use Rattle.ledger_rows.proofs.rows.find_at.Symbol.{name as #find}
@@ -274,7 +274,7 @@ look-up-spec 𝓤 H 𝓜 𝓖 𝓡 =
     entered 𝓤 H (tripleOf 𝓤 H (𝓖 .A) me.signature (me.spec 𝓤 H (𝓖 .A) (𝓜 .mem) (𝓡 .run)))
     (tables 𝓤 H 𝓜 𝓡 code.env .C) (tables 𝓤 H 𝓜 𝓡 code.env .Λ) #me code.function (code.unfolded 𝓤 H 𝓜 𝓡)
     (me-meets 𝓤 H (𝓖 .A) (givenOf 𝓤 H 𝓜 𝓖) (𝓜 .mem) (𝓡 .run) (tablesOf 𝓤 H 𝓜 (tables 𝓤 H 𝓜 𝓡 code.env))
-    (cited 𝓤 H (Sound 𝓤 H (𝓖 .A) (𝓜 .mem) (𝓡 .run)) 𝓜 𝓡 code.env #check check-def.routine code.calls-ledger-lookup·lookup·sound (check-thm.met 𝓤 H 𝓜 𝓖 𝓡))
+    (cited 𝓤 H (Sound 𝓤 H (𝓖 .A) (𝓜 .mem) (𝓡 .run)) 𝓜 𝓡 code.env #check check-def.routine code.calls-ledger-check·check·sound (check-thm.met 𝓤 H 𝓜 𝓖 𝓡))
     (cited 𝓤 H (FindAt 𝓤 H (𝓖 .A) (𝓜 .mem) (𝓡 .run)) 𝓜 𝓡 code.env #find find-def.routine code.calls-ledger-rows·rows·find-at (find-thm.met 𝓤 H 𝓜 𝓖 𝓡))
     (cited 𝓤 H (ReadRow 𝓤 H (𝓖 .A) (𝓜 .mem) (𝓡 .run)) 𝓜 𝓡 code.env #read read-def.routine code.calls-ledger-rows·rows·read-row (read-thm.met 𝓤 H 𝓜 𝓖 𝓡))
     (cited 𝓤 H (Standing 𝓤 H (𝓖 .A) (𝓜 .mem) (𝓡 .run)) 𝓜 𝓡 code.env #answer answer-def.routine code.calls-ledger-lookup·lookup·standing (answer-thm.met 𝓤 H 𝓜 𝓖 𝓡)))

@@ -1,9 +1,9 @@
 use denote.Ref.{now}
 use mathlib.Core.Path.{sym, ap, _∙_}
 use native.Mathlib.Omega.{arith}
-use Rattle.registry_error.specs.Answers.{accepts}
+use Rattle.registry_answer.specs.Answers.{accepts}
 use Rattle.registry_issue.specs.IssueFolds.{Outcome}
-use Rattle.ledger_asked.specs.Checks.{issueAnswer}
+use Rattle.ledger_answers.specs.Checks.{issueAnswer}
 use Rattle.ledger_next.proofs.Left.{issue-accepts, leaves-all, new-row}
 use borrow.Author.Needs.{needs}
 use Rattle.ledger_next.proofs.step.issue_next.Statement.{statement}

@@ -1,7 +1,7 @@
 use denote.Ref.{now}
 use mathlib.Core.Path.{sym, ap, _∙_}
 use Rattle.registry_issue.specs.IssueFolds.{Outcome}
-use Rattle.ledger_asked.specs.Checks.{revocationAnswer}
+use Rattle.ledger_answers.specs.Checks.{revocationAnswer}
 use Rattle.ledger_next.proofs.Left.{leaves-all, next-row}
 use borrow.Author.Needs.{needs}
 use Rattle.ledger_next.proofs.step.revoke_next.Statement.{statement}

@@ -1,7 +1,7 @@
 use denote.Ref.{now}
 use mathlib.Core.Path.{sym, ap, _∙_}
 use Rattle.registry_inception.specs.InceptionFolds.{Outcome}
-use Rattle.ledger_asked.specs.Checks.{rotationAnswer}
+use Rattle.ledger_answers.specs.Checks.{rotationAnswer}
 use Rattle.ledger_next.proofs.Left.{leaves-all, next-registry}
 use borrow.Author.Needs.{needs}
 use Rattle.ledger_next.proofs.step.rotate_next.Statement.{statement}

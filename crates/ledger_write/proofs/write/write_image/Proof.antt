@@ -61,10 +61,10 @@ use Rattle.registry_state.proofs.state.RegistryState as G
 use Rattle.registry_state.proofs.state.CredentialState as T
 use Rattle.ledger_write.proofs.write.Written as P
 use Rattle.ledger_write.proofs.write.Written.Laws as P′
-use Rattle.ledger_lookup.proofs.lookup.sound as check
-use Rattle.ledger_lookup.proofs.lookup.sound.Symbol as check-def
-use Rattle.ledger_lookup.proofs.lookup.sound.Symbol.{name as #check}
-use Rattle.ledger_lookup.proofs.lookup.sound.Met as check-thm
+use Rattle.ledger_check.proofs.check.sound as check
+use Rattle.ledger_check.proofs.check.sound.Symbol as check-def
+use Rattle.ledger_check.proofs.check.sound.Symbol.{name as #check}
+use Rattle.ledger_check.proofs.check.sound.Met as check-thm
 use Rattle.ledger_registry_image.proofs.registries.registries_size as size
 use Rattle.ledger_registry_image.proofs.registries.registries_size.Symbol as size-def
 use Rattle.ledger_registry_image.proofs.registries.registries_size.Symbol.{name as #size}
@@ -440,7 +440,7 @@ write-image-spec 𝓤 H 𝓜 𝓖 𝓡 =
     entered 𝓤 H (tripleOf 𝓤 H (𝓖 .A) me.signature (me.spec 𝓤 H (𝓖 .A) (𝓜 .mem) (𝓡 .run)))
     (tables 𝓤 H 𝓜 𝓡 code.env .C) (tables 𝓤 H 𝓜 𝓡 code.env .Λ) #me code.function (code.unfolded 𝓤 H 𝓜 𝓡)
     (me-meets 𝓤 H (𝓖 .A) (givenOf 𝓤 H 𝓜 𝓖) (𝓜 .mem) (𝓡 .run) (tablesOf 𝓤 H 𝓜 (tables 𝓤 H 𝓜 𝓡 code.env))
-    (cited 𝓤 H (Sound 𝓤 H (𝓖 .A) (𝓜 .mem) (𝓡 .run)) 𝓜 𝓡 code.env #check check-def.routine code.calls-ledger-lookup·lookup·sound (check-thm.met 𝓤 H 𝓜 𝓖 𝓡))
+    (cited 𝓤 H (Sound 𝓤 H (𝓖 .A) (𝓜 .mem) (𝓡 .run)) 𝓜 𝓡 code.env #check check-def.routine code.calls-ledger-check·check·sound (check-thm.met 𝓤 H 𝓜 𝓖 𝓡))
     (cited 𝓤 H (Sizes 𝓤 H (𝓖 .A) (𝓜 .mem) (𝓡 .run)) 𝓜 𝓡 code.env #size size-def.routine code.calls-ledger-registry-image·registries·registries-size (size-thm.met 𝓤 H 𝓜 𝓖 𝓡))
     (cited 𝓤 H (Writing 𝓤 H (𝓖 .A) (𝓜 .mem) (𝓡 .run)) 𝓜 𝓡 code.env #decide decide-def.routine code.calls-ledger-write·write·writing (decide-thm.met 𝓤 H 𝓜 𝓖 𝓡))
     (cited 𝓤 H (IsRefused 𝓤 H (𝓖 .A) (𝓜 .mem) (𝓡 .run)) 𝓜 𝓡 code.env #test test-def.routine code.calls-ledger-write·write·is-refused (test-thm.met 𝓤 H 𝓜 𝓖 𝓡))

@@ -7,7 +7,7 @@ use mathlib.Core.Bool.{true, false, false≢true}
 use borrow.Author.Tests.{leb-true}
 use Rattle.registry_state.specs.States.{viewRegistry, wellRegistry}
 use Rattle.registry_wire.specs.Attempts.{viewAttempt}
-use Rattle.registry_error.specs.Answers.{accepts}
+use Rattle.registry_answer.specs.Answers.{accepts}
 use Rattle.registry_inception.specs.InceptionFolds.{Outcome}
 use Rattle.registry_inception.proofs.WellLaws.{Lettered, well-by-view}
 use Rattle.registry.proofs.WellLaws.{well-view}

@@ -2,7 +2,7 @@ use denote.Ref.{now}
 use native.Mathlib.Omega.{arith}
 use Rattle.registry_authentication.proofs.AnchorUse.{issuer-in}
 use Rattle.registry.specs.RegistryFolds.{vrtAnswer}
-use Rattle.registry_error.specs.Answers.{firstOf}
+use Rattle.registry_answer.specs.Answers.{firstOf}
 use borrow.Author.Needs.{needs}
 use Rattle.registry.proofs.registry.vrt_answer.Statement.{statement}
 use Rattle.registry.proofs.registry.vrt_answer.Tie as tie

@@ -1,6 +1,6 @@
 use lib.ListN.{length}
 use Rattle.events.specs.Members.{view, checkDeltas, checkCurrent}
-use Rattle.registry_error.specs.Answers.{acceptIf, backerSet, orElse, firstOf}
+use Rattle.registry_answer.specs.Answers.{acceptIf, backerSet, orElse, firstOf}
 use Rattle.registry_error.specs.declared.error.Answer.the-variants.{Accepted}
 use Rattle.registry_error.specs.declared.error.RegistryRejection.the-variants.{TooManyBackers}
 use Rattle.registry_authentication.specs.Backers.{enoughReceipts}

@@ -1,6 +1,6 @@
 use denote.Ref.{now}
 use Rattle.registry_authentication.specs.Backers.{authenticateBacker}
-use Rattle.registry_error.specs.Answers.{firstOf}
+use Rattle.registry_answer.specs.Answers.{firstOf}
 use borrow.Author.Needs.{needs}
 use Rattle.registry_authentication.proofs.backer.authenticate_backer.Statement.{statement}
 use Rattle.registry_authentication.proofs.backer.authenticate_backer.Tie as tie

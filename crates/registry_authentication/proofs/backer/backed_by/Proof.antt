@@ -1,5 +1,5 @@
 use Rattle.registry_authentication.specs.Backers.{backedBy}
-use Rattle.registry_error.specs.Answers.{firstOf}
+use Rattle.registry_answer.specs.Answers.{firstOf}
 use borrow.Author.Needs.{needs}
 use Rattle.registry_authentication.proofs.backer.backed_by.Statement.{statement}
 use Rattle.registry_authentication.proofs.backer.backed_by.Tie as tie

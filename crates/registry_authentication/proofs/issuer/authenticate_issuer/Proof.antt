@@ -1,6 +1,6 @@
 use denote.Ref.{now}
 use Rattle.registry_wire.specs.Attempts.{sourcesIn}
-use Rattle.registry_error.specs.Answers.{firstOf}
+use Rattle.registry_answer.specs.Answers.{firstOf}
 use Rattle.registry_authentication.specs.Issuers.{authenticateIn}
 use borrow.Author.Needs.{needs}
 use Rattle.registry_authentication.proofs.issuer.authenticate_issuer.Statement.{statement}

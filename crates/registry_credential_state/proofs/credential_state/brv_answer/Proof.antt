@@ -3,7 +3,7 @@ use native.Mathlib.Omega.{arith}
 use Rattle.registry_authentication.proofs.AnchorUse.{message-in}
 use Rattle.events_tel.specs.TelEvents.{snOne}
 use Rattle.registry_credential_state.specs.CredentialFolds.{brvAnswer}
-use Rattle.registry_error.specs.Answers.{firstOf}
+use Rattle.registry_answer.specs.Answers.{firstOf}
 use borrow.Author.Needs.{needs}
 use Rattle.registry_credential_state.proofs.credential_state.brv_answer.Statement.{statement}
 use Rattle.registry_credential_state.proofs.credential_state.brv_answer.Tie as tie

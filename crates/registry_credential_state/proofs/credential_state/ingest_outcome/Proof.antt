@@ -3,7 +3,7 @@ use mathlib.Core.Path.{_≡_, sym, _∙_}
 use mathlib.Core.Bool.{true, false}
 use Rattle.registry_state.specs.States.{viewRegistry}
 use Rattle.registry_wire.specs.Attempts.{viewAttempt}
-use Rattle.registry_error.specs.Answers.{accepts}
+use Rattle.registry_answer.specs.Answers.{accepts}
 use Rattle.registry_credential_state.specs.CredentialFolds.{ingestAnswer}
 use Rattle.registry_credential_state.proofs.CredentialLaws.{event-said, ingest-kept}
 use borrow.Author.Needs.{needs}

@@ -1,5 +1,5 @@
 use Rattle.registry_credential_state.specs.CredentialFolds.{transition}
-use Rattle.registry_error.specs.Answers.{firstOf}
+use Rattle.registry_answer.specs.Answers.{firstOf}
 use borrow.Author.Needs.{needs}
 use Rattle.registry_credential_state.proofs.credential_state.transition.Statement.{statement}
 use Rattle.registry_credential_state.proofs.credential_state.transition.Tie as tie

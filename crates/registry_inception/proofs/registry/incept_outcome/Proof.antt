@@ -4,7 +4,7 @@ use mathlib.Core.Bool.{true, false, false≢true}
 use Rattle.events_tel.specs.declared.tel.Kind.the-variants.{Vcp}
 use Rattle.registry_state.specs.States.{viewRegistry}
 use Rattle.registry_wire.specs.Attempts.{viewAttempt}
-use Rattle.registry_error.specs.Answers.{accepts}
+use Rattle.registry_answer.specs.Answers.{accepts}
 use Rattle.registry_inception.specs.InceptionFolds.{inceptAnswer}
 use Rattle.registry_inception.proofs.InceptionLaws.{incept-kind, incept-accepted, incept-refused}
 use borrow.Author.Needs.{needs}

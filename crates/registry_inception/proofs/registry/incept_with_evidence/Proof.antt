@@ -3,7 +3,7 @@ use native.Mathlib.Omega.{arith}
 use mathlib.Core.Path.{sym, ap, subst, _∙_}
 use mathlib.Core.Bool.{false≢true}
 use Rattle.registry_wire.specs.Attempts.{viewAttempt}
-use Rattle.registry_error.specs.Answers.{accepts}
+use Rattle.registry_answer.specs.Answers.{accepts}
 use Rattle.registry_inception.specs.InceptionFolds.{Outcome}
 use Rattle.registry_authentication.proofs.AnchorUse.{decoded-good, anchored-parts}
 use Rattle.registry_inception.proofs.WellLaws.{Lettered, well-by-view}

@@ -3,7 +3,7 @@ use Rattle.registry_authentication.proofs.AnchorUse.{message-in}
 use Rattle.events_tel.specs.TelEvents.{snZero}
 use denote.Ref.{now}
 use Rattle.registry_inception.specs.InceptionFolds.{vcpAnswer}
-use Rattle.registry_error.specs.Answers.{firstOf}
+use Rattle.registry_answer.specs.Answers.{firstOf}
 use borrow.Author.Needs.{needs}
 use Rattle.registry_inception.proofs.registry.vcp_answer.Statement.{statement}
 use Rattle.registry_inception.proofs.registry.vcp_answer.Tie as tie

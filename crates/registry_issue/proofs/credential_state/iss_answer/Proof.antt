@@ -3,7 +3,7 @@ use native.Mathlib.Omega.{arith}
 use Rattle.registry_authentication.proofs.AnchorUse.{issuer-in}
 use Rattle.events_tel.specs.TelEvents.{snZero}
 use Rattle.registry_issue.specs.IssueFolds.{issAnswer}
-use Rattle.registry_error.specs.Answers.{firstOf}
+use Rattle.registry_answer.specs.Answers.{firstOf}
 use borrow.Author.Needs.{needs}
 use Rattle.registry_issue.proofs.credential_state.iss_answer.Statement.{statement}
 use Rattle.registry_issue.proofs.credential_state.iss_answer.Tie as tie

@@ -1,0 +1,2 @@
+// Thresholds of backer receipts (docs/RULES.md, "Thresholds").
+pub mod toad;

@@ -1,9 +1,0 @@
-use Rattle.ledger_lookup.proofs.Found.{below-both}
-use Rattle.ledger_lookup.proofs.lookup.is_found.Statement.{statement}
-use Rattle.ledger_lookup.proofs.lookup.is_found.Tie as tie
-
-returns : tie.Need-returns
-returns c = below-both (c .args .at) (c .args .count) (c .args .len)
-
-pub is-found-spec : {M : Type 1} → statement M
-is-found-spec = tie.close (tie.spec returns)

@@ -1,0 +1,2 @@
+// Answers, and the order of checks (docs/RULES.md, "Orders").
+pub mod answer;
