@@ -1,12 +1,15 @@
 #!/usr/bin/env bash
 # All tests: the layout of the files, then every proof from nothing, every must-fail edit and every program, then recorded runs of the
-# printed program. The last line is 'N passed, 0 failed', and it is printed only when everything passed.
+# printed program, hosts in C and Rust, the tool, and a short comparison with the Rust. The last line is 'N passed, 0 failed', and it is
+# printed only when everything passed.
 set -euo pipefail
 cd "$(dirname "$0")"
 # The checker unpacks some 200 MB anew for every crate and every edit. Where there is room for that in memory it is quicker than on a disk.
 if [ -z "${TMPDIR:-}" ] && [ -w /dev/shm ] && [ "$(df --output=avail /dev/shm | tail -n 1)" -gt 4000000 ]; then
     export TMPDIR=/dev/shm
 fi
+# Checks wait for each other in groups of this many; a larger group leaves less of a processor idle.
+export RT_JOBS="${RT_JOBS:-$((2 * $(nproc)))}"
 rt fmt --check
 said=$(mktemp)
 trap 'rm -f "$said"' EXIT
@@ -19,4 +22,7 @@ if grep -qE '(cache|incremental)=trusted' "$said"; then
 fi
 tail -n 1 "$said" | grep -qE '^[0-9]+ passed, 0 failed$'
 tests/attempts.sh
+tests/hosts.sh
+tests/tool.sh
+tests/compare.sh
 tail -n 1 "$said"
