@@ -1,6 +1,7 @@
 // The standing of a credential, by its key (docs/RULES.md, "Look-up").
 use cesr::number::Sn;
 use cesr::primitive::Said;
+use ledger_check::check::sound;
 use ledger_rows::rows::find_at;
 use ledger_rows::rows::read_row;
 use registry_state::state::CredentialState;

@@ -1,5 +1,6 @@
 // The check of all rows that are lent (docs/RULES.md, "Reading rules").
 use cesr::number::Sn;
+use ledger_rows::rows::find_at;
 use registry_state::state::CredentialState;
 ghost use mathlib.Core.Path.{_≡_};
 ghost use mathlib.Core.Bool.{_&&_};
