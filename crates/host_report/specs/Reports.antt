@@ -1,0 +1,57 @@
+-- The reports of the host's calls, in bytes (docs/RULES.md, "Host's calls").
+use Prim.Native.Nat.{ℕ}
+use mathlib.Core.List.{List, [], _∷_, _++_}
+use mathlib.Core.Bool.{cond}
+use lib.Dec.{eqb}
+use lib.ListN.{length, getD}
+use Rattle.laws.specs.Number.{digits}
+use Rattle.cesr.specs.Numbers.{value}
+use Rattle.registry_error.specs.declared.error.RegistryRejection.{RegistryRejection}
+use Rattle.registry_error.specs.declared.error.Answer.{Answer}
+use Rattle.registry_error.specs.declared.error.Answer.the-variants.{Accepted, Rejected}
+use Rattle.registry_error.specs.Errors.{numberOf, dispositionOf, letterOf, awaitedOf, detailsOf}
+use Rattle.ledger_lookup.specs.declared.lookup.LookedUp.{LookedUp}
+use Rattle.ledger_write.specs.declared.write.Written.{Written}
+use Rattle.host_report.specs.declared.values.Values.{Values}
+use Rattle.host_report.specs.declared.values.Values.the-variants.{Nothing, One, Two}
+
+-- a byte each for the number, the letter, the evidence kind awaited and how many values there are, then 16 bytes for each of two values: 0 for one
+-- that is not there
+unfoldable pub reportBytes : ℕ → ℕ → ℕ → List ℕ → List ℕ
+reportBytes number letter awaited values =
+    number ∷ letter ∷ awaited ∷ length values ∷ digits 16 (getD values 0 0) ++ digits 16 (getD values 1 0)
+
+-- an acceptance, with the letter A, and the values that the call gives
+abbrev pub acceptedReport : List ℕ → List ℕ
+acceptedReport values = reportBytes 0 65 0 values
+
+-- a refusal of an attempt, with its details
+abbrev pub rejectionReport : RegistryRejection → List ℕ
+rejectionReport r = reportBytes (numberOf r) (letterOf (dispositionOf r)) (awaitedOf (dispositionOf r)) (detailsOf r)
+
+-- the answer to an attempt
+abbrev pub answerReport : Answer → List ℕ
+answerReport Accepted = acceptedReport []
+answerReport (Rejected r) = rejectionReport r
+
+-- the answer of a call whose refusals are all terminal, with the letter T, and have no details; the values are given after acceptance only
+unfoldable pub plainReport : ℕ → List ℕ → List ℕ
+plainReport number values = cond (eqb number 0) (acceptedReport values) (reportBytes number 84 0 [])
+
+-- a look-up gives the standing
+abbrev pub lookedUpReport : LookedUp → List ℕ
+lookedUpReport a = plainReport (a .refusal) (a .standing ∷ [])
+
+-- an image that is written, its length
+abbrev pub writtenReport : Written → List ℕ
+writtenReport a = plainReport (a .number) (a .size ∷ [])
+
+-- an image that is read, nothing
+abbrev pub readReport : ℕ → List ℕ
+readReport number = plainReport number []
+
+-- the values in the code
+abbrev pub valuesOf : Values → List ℕ
+valuesOf Nothing = []
+valuesOf (One a) = value a ∷ []
+valuesOf (Two a b) = value a ∷ value b ∷ []

@@ -1,0 +1,3 @@
+// The reports of the host's calls (docs/RULES.md, "Host's calls").
+pub mod report;
+pub mod values;
