@@ -5,7 +5,7 @@
 --     lends       Cell d  ⊢ ⇛ ∃ δ ε. Own-gs ∗ Own-ws ∗ Count-g ∗ Count-w ∗ Kept δ ε
 --     backs       [†ν] ∗ [†μ] ∗ finally δ ∗ finally ε ∗ Count-g ∗ Count-w ∗ Kept δ ε  ⊢ ⇛ (the ledger's cell ∗ what it owns), at what was left there
 -- Assumes `Given`.
-use mathlib.Core.Path.{_≡_, refl}
+use mathlib.Core.Path.{refl}
 use Prim.Native.Nat.{ℕ, zero, _+_, _<_, _^_}
 use mathlib.Core.List.{List, [], _∷_}
 use lib.ListN.{length}
@@ -18,7 +18,7 @@ use base.Fml.{GName, Fml, ftrue, fat, fdead, flent}
 use prog.Model.{fieldsAt}
 use prog.Wp.{Heap}
 use ghost.Atoms.{Atoms, sem}
-use types.Kit.{Given, ‵, raw, _⊛_, some, later, _$_, _∵_, !, qed, move, use1, use2, use3, drop, group, split, join, pick, rewrite, frame, await, updating, now as at-once, show, done}
+use types.Kit.{Given, ‵, raw, _⊛_, some, later, _$_, _∵_, !, qed, move, use1, use2, use3, drop, group, split, pick, rewrite, frame, await, updating, now as at-once, show, done}
 use denote.Array.{Array, array-makes}
 use denote.Memory.{cellAt}
 use denote.Laws.{Is, shows}
