@@ -154,6 +154,7 @@ pub fn write_u64(out: &mut [u8], at: usize, x: u64) -> bool
 }
 
 // A sequence number of 128 bits.
+#[repr(C)]
 pub struct Sn {
     pub hi: u64,
     pub lo: u64,

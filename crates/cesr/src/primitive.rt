@@ -7,6 +7,7 @@ ghost use Rattle.laws.specs.Room.{room, put};
 ghost use Rattle.cesr.specs.Primitives.{none, matterBytes, readMatter, eqMatter, eqSaid, eqPrefix, isBasic, isSaid};
 
 // The material of a primitive, whatever its role: the code letter, and the 32 bytes as four big-endian words.
+#[repr(C)]
 pub struct Matter {
     pub code: u8,
     pub w0: u64,
@@ -16,9 +17,11 @@ pub struct Matter {
 }
 
 // A digest that names its own content.
+#[repr(C)]
 pub struct Said(pub Matter);
 
 // A prefix that is a public key.
+#[repr(C)]
 pub struct BasicPrefix(pub Matter);
 
 impl Matter {

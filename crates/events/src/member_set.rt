@@ -10,6 +10,7 @@ ghost use lib.Dec.{ltb};
 ghost use Rattle.events.specs.Members.{view, noPrefix, at, pushed, has, breaks, check, orElse, checkMembers, checkDeltas, checkCurrent, Offends};
 
 // The members are the first `count` of the items.
+#[repr(C)]
 pub struct Members {
     pub items: [BasicPrefix; 16],
     pub count: usize,

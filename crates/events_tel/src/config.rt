@@ -28,6 +28,7 @@ pub enum TraitRead {
 
 // A list of at most 8 config bytes, as it was handed in. They are kept as bytes, since a host lends them as memory and every
 // pattern of bits has to be a value.
+#[repr(C)]
 pub struct Configs {
     pub codes: [u8; 8],
     pub count: usize,

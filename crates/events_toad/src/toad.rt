@@ -4,6 +4,7 @@ ghost use Prim.Native.Nat.{_<_, _^_, min, max};
 ghost use Rattle.events_toad.specs.Toads.{toadOf, toadNumber, exactOk, exactOf, ceil, strongMajority, leastOf, ampleOf};
 
 // Wraps its number, so that a threshold is never taken for a count of receipts or of backers.
+#[repr(C)]
 pub struct Toad(u32);
 
 // A threshold, or why there is none.

@@ -21,6 +21,7 @@ ghost use Rattle.codec.specs.Events.{isConfig};
 ghost use Rattle.codec.specs.Layout.{all};
 ghost use Rattle.registry_state.specs.States.{viewRegistry, registryBytes, credentialBytes, readRegistry, readCredential, viewRegistryRead, viewCredentialRead, noRegistry, noCredential, isBacker, wellRegistry, wellCredential};
 
+#[repr(C)]
 pub struct RegistryState {
     pub id: Said,
     // An identifier.
@@ -33,6 +34,7 @@ pub struct RegistryState {
     pub backers: Members,
 }
 
+#[repr(C)]
 pub struct CredentialState {
     pub registry: Said,
     pub credential: Said,
