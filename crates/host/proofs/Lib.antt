@@ -1,0 +1,2 @@
+pub mod ShownArrays
+pub mod ShownLedger
