@@ -8,8 +8,9 @@ use Rattle.cesr.specs.Primitives.{none, readMatter}
 use Rattle.cesr.specs.declared.primitive.Said.{Said}
 use Rattle.registry_laws.specs.Pairs.{Pair}
 use Rattle.ledger_step.specs.Ledgers.{LookedUp}
+use Rattle.ledger_image.specs.Images.{Written}
 use Rattle.ledger_lookup.specs.Lookups.{keyPair}
-use Rattle.host_report.specs.Reports.{lookedUpReport}
+use Rattle.host_report.specs.Reports.{lookedUpReport, writtenReport}
 use Rattle.host.specs.declared.look.Key.{Key}
 
 -- a part of a key has 33 bytes; bytes of another length are no primitive
@@ -23,6 +24,9 @@ keyIn registry credential = keyPair (saidIn registry) (saidIn credential)
 abbrev pub viewKey : Key → Pair
 viewKey k = keyPair (k .registry) (k .credential)
 
--- a look-up reports its two numbers
+-- a look-up reports its two numbers, and writing an image its number and how many bytes were written
 abbrev pub lookUpReport : LookedUp → List ℕ
 lookUpReport a = lookedUpReport (record { refusal = a .refusal; standing = a .standing })
+
+abbrev pub imageReport : Written → List ℕ
+imageReport a = writtenReport (record { number = a .number; size = a .size })

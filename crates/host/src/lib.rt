@@ -1,2 +1,3 @@
 // The calls that are exported to other languages (docs/RULES.md, "Host's calls").
 pub mod look;
+pub mod write;

@@ -42,8 +42,8 @@ pub extern "C" fn jamfell_look_up(
     credential: &[u8],
     report: &mut [u8; 36],
 ) -> u8
-    ensures { λ r. ⌜ (r ≡ lookUp (viewLedger (now (ledger .entry))) (keyIn (now (registry .entry)) (now (credential .entry))) .refusal)
-        × (now (report .exit) ≡ lookUpReport (lookUp (viewLedger (now (ledger .entry))) (keyIn (now (registry .entry)) (now (credential .entry))))) ⌝ }
+    ensures number { λ r. ⌜ r ≡ lookUp (viewLedger (now (ledger .entry))) (keyIn (now (registry .entry)) (now (credential .entry))) .refusal ⌝ }
+    ensures report { λ r. ⌜ now (report .exit) ≡ lookUpReport (lookUp (viewLedger (now (ledger .entry))) (keyIn (now (registry .entry)) (now (credential .entry)))) ⌝ }
 {
     let key = key_in(registry, credential);
     let registry_count = ledger.registry_count;
