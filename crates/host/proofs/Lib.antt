@@ -1,2 +1,4 @@
 pub mod LentCalls
 pub mod LentLedger
+pub mod ShownArrays
+pub mod ShownLedger

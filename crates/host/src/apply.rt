@@ -4,7 +4,7 @@ use ledger_apply::apply::apply;
 use ledger_table::table::Ledger;
 ghost use mathlib.Core.Path.{_≡_};
 ghost use mathlib.Core.Bool.{false};
-ghost use Rattle.registry_error.specs.Answers.{accepts};
+ghost use Rattle.registry_answer.specs.Answers.{accepts};
 ghost use Rattle.registry_error.specs.Errors.{answerNumber};
 ghost use Rattle.ledger_step.specs.Steps.{requestOf, effect, stepOf};
 ghost use Rattle.ledger_apply.specs.Applies.{Stores};

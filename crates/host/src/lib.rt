@@ -2,4 +2,6 @@
 pub mod apply;
 pub mod empty;
 pub mod folds;
+pub mod look;
 pub mod read;
+pub mod write;

@@ -40,7 +40,7 @@ use Rattle.registry_state.specs.declared.state.RegistryState.{RegistryState}
 use Rattle.registry_state.specs.declared.state.CredentialState.{CredentialState}
 use Rattle.registry_state.proofs.state.RegistryState as G
 use Rattle.registry_state.proofs.state.CredentialState as T
-use Rattle.registry_error.specs.Answers.{accepts}
+use Rattle.registry_answer.specs.Answers.{accepts}
 use Rattle.registry_error.specs.Errors.{answerNumber}
 use Rattle.registry_error.specs.declared.error.Answer.{Answer}
 use Rattle.registry_error.proofs.error.Answer as E

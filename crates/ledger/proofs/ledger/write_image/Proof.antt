@@ -208,7 +208,7 @@ module _ {M : Type 1} (𝓤 : URA M) (H : Heap 𝓤) (A : Atoms 𝓤) (W : Given
           by ! (exits r out′ is-r e len-out)
 
       -- the arrays come back
-      returned : (ν : ℕ) (δ ε : GName) (r : Answered) (zs : Unit {0} × (Unit {0} × (Unit {0} × (Unit {0} × (List ℕ × Unit {0}))))) (is-r : Is P.the-row r (P′.lowered r ∷ [])) (e : viewWritten r (zs .1 .1 .1 .1 .0) ≡ writtenOf (lentLedger gs m ws n) out) (len-out : length (zs .1 .1 .1 .1 .0) ≡ length out) → Sq W ((‵ (flft (ν ∷ []) fullShare) ⊛ ‵ (flft κ q) ⊛ ‵ ftrue) ∷ ‵ (finally u8 γ-out (zs .1 .1 .1 .1 .0)) ∷ ‵ (Shared T.the-row tt (λ z. LL.val T.the-type T′.the-laws z) (LL.tells T.the-type T′.the-laws) 256 (ν ∷ []) l₄ 0 ws) ∷ ‵ (Shared G.the-row tt (λ z. LL.val G.the-type G′.the-laws z) (LL.tells G.the-type G′.the-laws) 16 (ν ∷ []) l₃ 0 gs) ∷ ‵ (fat fullShare (sliceTy again-out) l₁₀ 0 (val-out)) ∷ ‵ (fdies (sliceTy again-out) l₁₀) ∷ ‵ (fat fullShare again-out l₉ 0 (vptr b-out o-out)) ∷ ‵ (fdies again-out l₉) ∷ ‵ (fat fullShare slice-w l₈ 0 (sliceVal (l₄, 0) (length ws))) ∷ ‵ (fdies slice-w l₈) ∷ ‵ (fat fullShare aref-w l₇ 0 (vptr l₄ 0)) ∷ ‵ (fdies aref-w l₇) ∷ ‵ (fat fullShare slice-g l₆ 0 (sliceVal (l₃, 0) (length gs))) ∷ ‵ (fdies slice-g l₆) ∷ ‵ (fat fullShare aref-g l₅ 0 (vptr l₃ 0)) ∷ ‵ (fdies aref-g l₅) ∷ ‵ (fdies arr-w l₄) ∷ ‵ (fdies arr-g l₃) ∷ ‵ (fat fullShare slice-out l₂ 0 (val-out)) ∷ ‵ (fdies slice-out l₂) ∷ ‵ (fat fullShare K′.mir l₁ 0 (spelled ledger)) ∷ ‵ (fdies K′.mir l₁) ∷ ‵ (fat fullShare P′.mir l₀ 0 (P′.lowered r)) ∷ ‵ (fdies P′.mir l₀) ∷ []) (runs C Λ En mirᶠ.t-10 (atRet En Post))
+      returned : (ν : ℕ) (δ ε : GName) (r : Answered) (zs : Unit {0} × (Unit {0} × (Unit {0} × (Unit {0} × (List ℕ × Unit {0}))))) (is-r : Is P.the-row r (P′.lowered r ∷ [])) (e : viewWritten r (zs .1 .1 .1 .1 .0) ≡ writtenOf (lentLedger gs m ws n) out) (len-out : length (zs .1 .1 .1 .1 .0) ≡ length out) → Sq W ((‵ (flft (ν ∷ []) fullShare) ⊛ ‵ (flft κ q) ⊛ ‵ ftrue) ∷ ‵ (finally u8 γ-out (zs .1 .1 .1 .1 .0)) ∷ ‵ (Shared T.the-row tt (λ z. LL.val T.the-type T′.the-laws z) (LL.tells T.the-type T′.the-laws) 256 (ν ∷ []) l₄ 0 fullShare ws) ∷ ‵ (Shared G.the-row tt (λ z. LL.val G.the-type G′.the-laws z) (LL.tells G.the-type G′.the-laws) 16 (ν ∷ []) l₃ 0 fullShare gs) ∷ ‵ (fat fullShare (sliceTy again-out) l₁₀ 0 (val-out)) ∷ ‵ (fdies (sliceTy again-out) l₁₀) ∷ ‵ (fat fullShare again-out l₉ 0 (vptr b-out o-out)) ∷ ‵ (fdies again-out l₉) ∷ ‵ (fat fullShare slice-w l₈ 0 (sliceVal (l₄, 0) (length ws))) ∷ ‵ (fdies slice-w l₈) ∷ ‵ (fat fullShare aref-w l₇ 0 (vptr l₄ 0)) ∷ ‵ (fdies aref-w l₇) ∷ ‵ (fat fullShare slice-g l₆ 0 (sliceVal (l₃, 0) (length gs))) ∷ ‵ (fdies slice-g l₆) ∷ ‵ (fat fullShare aref-g l₅ 0 (vptr l₃ 0)) ∷ ‵ (fdies aref-g l₅) ∷ ‵ (fdies arr-w l₄) ∷ ‵ (fdies arr-g l₃) ∷ ‵ (fat fullShare slice-out l₂ 0 (val-out)) ∷ ‵ (fdies slice-out l₂) ∷ ‵ (fat fullShare K′.mir l₁ 0 (spelled ledger)) ∷ ‵ (fdies K′.mir l₁) ∷ ‵ (fat fullShare P′.mir l₀ 0 (P′.lowered r)) ∷ ‵ (fdies P′.mir l₀) ∷ []) (runs C Λ En mirᶠ.t-10 (atRet En Post))
       returned ν δ ε r zs is-r e len-out =
           split ! $
           move ! (1 ∷ []) $
@@ -219,13 +219,13 @@ module _ {M : Type 1} (𝓤 : URA M) (H : Heap 𝓤) (A : Atoms 𝓤) (W : Given
           lft-end ! tt $
           use1 W (‵ (fdead (ν ∷ [])) ⊛ ‵ (fdead (ν ∷ []))) (W .lfts .dead-dup (ν ∷ [])) $ split ! $
           move ! (0 ∷ 5 ∷ []) $
-          use2 W (later (‵ (fat fullShare arr-g l₃ 0 (low-g gs)) ⊛ ‵ (Array G.the-row 16 .own gs (low-g gs ∷ [])))) (unshares G.the-row tt (λ z. LL.val G.the-type G′.the-laws z) (LL.tells G.the-type G′.the-laws) 16 (ν ∷ []) l₃ 0 𝓤 H A W gs (length-g gs (has .registries))) $
+          use2 W (later (‵ (fat fullShare arr-g l₃ 0 (low-g gs)) ⊛ ‵ (Array G.the-row 16 .own gs (low-g gs ∷ [])))) (unshares G.the-row tt (λ z. LL.val G.the-type G′.the-laws z) (LL.tells G.the-type G′.the-laws) 16 (ν ∷ []) l₃ 0 𝓤 H A W fullShare gs (length-g gs (has .registries))) $
           await ! tt $
           split ! $
           move ! (1 ∷ []) $
           drop ! $
           move ! (1 ∷ 4 ∷ []) $
-          use2 W (later (‵ (fat fullShare arr-w l₄ 0 (low-w ws)) ⊛ ‵ (Array T.the-row 256 .own ws (low-w ws ∷ [])))) (unshares T.the-row tt (λ z. LL.val T.the-type T′.the-laws z) (LL.tells T.the-type T′.the-laws) 256 (ν ∷ []) l₄ 0 𝓤 H A W ws (length-w ws (has .rows))) $
+          use2 W (later (‵ (fat fullShare arr-w l₄ 0 (low-w ws)) ⊛ ‵ (Array T.the-row 256 .own ws (low-w ws ∷ [])))) (unshares T.the-row tt (λ z. LL.val T.the-type T′.the-laws z) (LL.tells T.the-type T′.the-laws) 256 (ν ∷ []) l₄ 0 𝓤 H A W fullShare ws (length-w ws (has .rows))) $
           await ! tt $
           split ! $
           move ! (1 ∷ []) $
@@ -238,12 +238,12 @@ module _ {M : Type 1} (𝓤 : URA M) (H : Heap 𝓤) (A : Atoms 𝓤) (W : Given
       lent =
           lft-new ! tt (λ ν. owned ! (Array G.the-row 16) (Is (Array G.the-row 16)) (array-makes 𝓤 H A W G.the-row ((LL.makes G.the-type G′.the-plain) 𝓤 H A) 16) gs _ (has .registries) $
           move ! (18 ∷ 0 ∷ []) $
-          use2 W (later (some (λ (δ : GName). ‵ (ShrSlice (named 0) (ν ∷ []) G.the-row .own (record { ptr = (l₃, 0); name = δ; now = gs }) (sliceVal (l₃, 0) (length gs) ∷ [])) ⊛ ‵ (Shared G.the-row tt (λ z. LL.val G.the-type G′.the-laws z) (LL.tells G.the-type G′.the-laws) 16 (ν ∷ []) l₃ 0 gs)))) (shares G.the-row tt (λ z. LL.val G.the-type G′.the-laws z) (LL.tells G.the-type G′.the-laws) 16 (ν ∷ []) l₃ 0 𝓤 H A W (named 0) gs (room-g gs (has .registries))) $
+          use2 W (later (some (λ (δ : GName). ‵ (ShrSlice (named 0) (ν ∷ []) G.the-row .own (record { ptr = (l₃, 0); name = δ; now = gs }) (sliceVal (l₃, 0) (length gs) ∷ [])) ⊛ ‵ (Shared G.the-row tt (λ z. LL.val G.the-type G′.the-laws z) (LL.tells G.the-type G′.the-laws) 16 (ν ∷ []) l₃ 0 fullShare gs)))) (shares G.the-row tt (λ z. LL.val G.the-type G′.the-laws z) (LL.tells G.the-type G′.the-laws) 16 (ν ∷ []) l₃ 0 𝓤 H A W (named 0) fullShare gs (room-g gs (has .registries))) $
           await ! tt $
           pick ! (λ δ. split ! $
           owned ! (Array T.the-row 256) (Is (Array T.the-row 256)) (array-makes 𝓤 H A W T.the-row ((LL.makes T.the-type T′.the-plain) 𝓤 H A) 256) ws _ (has .rows) $
           move ! (18 ∷ 0 ∷ []) $
-          use2 W (later (some (λ (ε : GName). ‵ (ShrSlice (named 0) (ν ∷ []) T.the-row .own (record { ptr = (l₄, 0); name = ε; now = ws }) (sliceVal (l₄, 0) (length ws) ∷ [])) ⊛ ‵ (Shared T.the-row tt (λ z. LL.val T.the-type T′.the-laws z) (LL.tells T.the-type T′.the-laws) 256 (ν ∷ []) l₄ 0 ws)))) (shares T.the-row tt (λ z. LL.val T.the-type T′.the-laws z) (LL.tells T.the-type T′.the-laws) 256 (ν ∷ []) l₄ 0 𝓤 H A W (named 0) ws (room-w ws (has .rows))) $
+          use2 W (later (some (λ (ε : GName). ‵ (ShrSlice (named 0) (ν ∷ []) T.the-row .own (record { ptr = (l₄, 0); name = ε; now = ws }) (sliceVal (l₄, 0) (length ws) ∷ [])) ⊛ ‵ (Shared T.the-row tt (λ z. LL.val T.the-type T′.the-laws z) (LL.tells T.the-type T′.the-laws) 256 (ν ∷ []) l₄ 0 fullShare ws)))) (shares T.the-row tt (λ z. LL.val T.the-type T′.the-laws z) (LL.tells T.the-type T′.the-laws) 256 (ν ∷ []) l₄ 0 𝓤 H A W (named 0) fullShare ws (room-w ws (has .rows))) $
           await ! tt $
           pick ! (λ ε. split ! $
           move ! (0 ∷ 6 ∷ []) $
