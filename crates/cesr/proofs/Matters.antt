@@ -1,15 +1,16 @@
 -- Laws of primitives.
 --     matter-sets              a primitive is stored letter by word
 --     length-matter            it has 33 bytes
+--     matter-apart             primitives that differ in the first word
 --     eq-matter, matter-eq     equality as a test, and as a path
 --     eq-said, said-eq, eq-prefix, prefix-eq   the same in either role
 use Prim.Native.Nat.{ℕ, _+_}
 use mathlib.Core.Path.{_≡_, refl, ap}
 use mathlib.Core.List.{List}
-use mathlib.Core.Bool.{true, false, cond, _&&_}
+use mathlib.Core.Bool.{Bool, true, false, cond, _&&_}
 use native.Mathlib.Nat.{add-assoc}
 use native.Mathlib.Numerals.{add-one}
-use borrow.Author.Tests.{eq-eqb, eqb-true}
+use borrow.Author.Tests.{eq-eqb, ne-eqb, eqb-true}
 use lib.Dec.{leb, eqb}
 use lib.ListN.{length, set, length-append}
 use lib.Seq.{sets}
@@ -33,6 +34,15 @@ matter-sets l at m = simp (sets-append, length-digits, add-assoc) (rw (add-one a
 pub length-matter : (m : Matter) → length (matterBytes m) ≡ 33
 unfolding matterBytes
 length-matter m = simp (length-append, length-digits)
+
+-- primitives that differ in the first word differ
+pub matter-apart : (a b : Matter) → (a .w0 ≡ b .w0 → ⊥) → eqMatter a b ≡ false
+unfolding eqMatter
+matter-apart a b h = rw (ne-eqb (a .w0) (b .w0) h) (go (eqb (a .code) (b .code)))
+  where
+    go : (t : Bool) → (t && false && eqb (a .w1) (b .w1) && eqb (a .w2) (b .w2) && eqb (a .w3) (b .w3)) ≡ false
+    go true = refl
+    go false = refl
 
 -- what a reader that tests for room answers
 pub matter-whole : (s : List ℕ) (at : ℕ) (m : Matter) → leb (at + 33) (length s) ≡ true → m ≡ cond true (record { code = lib.ListN.getD s at 0; w0 = number s (at + 1) 8; w1 = number s (at + 9) 8; w2 = number s (at + 17) 8; w3 = number s (at + 25) 8 }) none → m ≡ readMatter s at

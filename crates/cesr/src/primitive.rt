@@ -38,7 +38,21 @@ impl Matter {
         }
     }
 
+    // Handed on field by field: of a primitive that is copied whole, with the gap behind its letter, the compiler makes slow copies.
     pub fn read(s: &[u8], at: usize) -> Matter
+        ensures { λ r. ⌜ r ≡ readMatter (now (s .entry)) at ⌝ }
+    {
+        let m = Matter::load(s, at);
+        Matter {
+            code: m.code,
+            w0: m.w0,
+            w1: m.w1,
+            w2: m.w2,
+            w3: m.w3,
+        }
+    }
+
+    fn load(s: &[u8], at: usize) -> Matter
         ensures { λ r. ⌜ r ≡ readMatter (now (s .entry)) at ⌝ }
     {
         if has_room(s.len(), at, 33) {
@@ -67,9 +81,13 @@ impl Matter {
         true
     }
 
+    // Most primitives that differ do so in the first word, so that is looked at first.
     pub fn same(self, other: Matter) -> bool
         ensures { λ r. ⌜ r ≡ eqMatter self other ⌝ }
     {
+        if self.w0 != other.w0 {
+            return false;
+        }
         (self.code == other.code)
             & (self.w0 == other.w0)
             & (self.w1 == other.w1)

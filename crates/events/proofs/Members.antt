@@ -5,18 +5,20 @@
 --     all-sound, sound-all              a rule is kept where no place breaks it, and there alone
 --     broken-rule, broken-below, broken-breaks, broken-least
 --                                       a refusal names the rule that was checked, and the least place that breaks it
+--     until-within, held-is, held-breaks
+--                                       the loop that looks for the first place that breaks a rule
 --     distinct-sound, sound-distinct, sound-apart
 --                                       a list is sound where no element stands before its place too, and there alone
 --     members-offends, deltas-offends, current-offends
 --                                       the element at the position of an answer breaks the rule that it names
 use Prim.Native.Nat.{ℕ, zero, suc, _+_, _<_, _≤_, min}
 use mathlib.Core.Path.{_≡_, refl, ap, sym, _∙_}
-use mathlib.Core.Bool.{Bool, true, false, cond, _||_, or-true, or-false, true≢false, false≢true}
+use mathlib.Core.Bool.{Bool, true, false, cond, not, _||_, or-true, or-false, true≢false, false≢true}
 use mathlib.Core.List.{List, [], _∷_, _++_}
 use native.Mathlib.Omega.{arith}
 use borrow.Author.Tests.{lt-ltb, le-ltb, ltb-true, ltb-false}
 use lib.ListN.{length, take, set, getD, List·getD-eq-default}
-use lib.Seq.{length-take-le, getD-take}
+use lib.Seq.{length-take-le, getD-take, take-length}
 use lib.Dec.{ltb}
 use Rattle.laws.specs.First.{first}
 use Rattle.laws.proofs.First.{first-none, first-found, first-holds, first-least}
@@ -29,7 +31,7 @@ use Rattle.events.specs.declared.member_set.Rule.{Rule}
 use Rattle.events.specs.declared.member_set.Rule.the-variants.{DuplicateBacker, DuplicateCut, DuplicateAddition, CutAddOverlap, RemovalNotCurrent, AdditionAlreadyPresent}
 use Rattle.events.specs.declared.member_set.Membership.{Membership}
 use Rattle.events.specs.declared.member_set.Membership.the-variants.{Sound, Broken}
-use Rattle.events.specs.Members.{view, noPrefix, at, pushed, has, membershipNumber, breaks, check, orElse, checkMembers, checkDeltas, checkCurrent, Lists, subject, against, Offends}
+use Rattle.events.specs.Members.{view, noPrefix, at, pushed, has, membershipNumber, breaks, isRepeat, isMissing, held, check, orElse, checkMembers, checkDeltas, checkCurrent, Lists, subject, against, Offends}
 
 module _ (m : Members) (h : length (m .items) ≡ 16) where
   pub view-size : length (view m) ≡ min (m .count) 16
@@ -148,6 +150,25 @@ module _ (r : Rule) (l o : List BasicPrefix) where
   -- the position is the least that breaks the rule
   pub broken-least : (q : Rule) (i : ℕ) → check r l o ≡ Broken q i → (k : ℕ) → k < i → breaks r l o k ≡ false
   broken-least q i e k b = let w = broken-first q i e in first-least P (length l) k (rw (w .1) at b)
+
+-- an element is held against no more elements than there are
+pub until-within : (b : Bool) (i n m : ℕ) → (b ≡ true → n ≤ m) → i < n → cond b i m ≤ m
+until-within true i n m h b = omega (arith, h refl)
+until-within false i n m h b = omega arith
+
+-- what a loop over those elements finds says whether the place breaks the rule
+pub held-is : (l o : List BasicPrefix) (repeat missing : Bool) (i : ℕ) (found t : Bool) → found ≡ has (at l i) (take (cond repeat i (length o)) o) → t ≡ cond missing (not found) found → held l o repeat missing i ≡ t
+unfolding held
+held-is l o repeat missing i found t e f = rw (f, e)
+
+pub held-breaks : (r : Rule) (l o : Members) (i : ℕ) → held (view l) (view (cond (isRepeat r) l o)) (isRepeat r) (isMissing r) i ≡ breaks r (view l) (view o) i
+unfolding held breaks
+held-breaks DuplicateBacker l o i = refl
+held-breaks DuplicateCut l o i = refl
+held-breaks DuplicateAddition l o i = refl
+held-breaks CutAddOverlap l o i = rw (take-length (view o))
+held-breaks RemovalNotCurrent l o i = rw (take-length (view o))
+held-breaks AdditionAlreadyPresent l o i = rw (take-length (view o))
 
 -- a list is sound where none of its elements stands before its place too, and there alone
 pub sound-distinct : (l : List BasicPrefix) → checkMembers l ≡ Sound → (i : ℕ) → i < length l → has (at l i) (take i l) ≡ false

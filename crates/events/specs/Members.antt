@@ -58,6 +58,29 @@ breaks CutAddOverlap l o i = has (at l i) o
 breaks RemovalNotCurrent l o i = not (has (at l i) o)
 breaks AdditionAlreadyPresent l o i = has (at l i) o
 
+-- whether a rule is about an element that stands in its own list before
+abbrev pub isRepeat : Rule → Bool
+isRepeat DuplicateBacker = true
+isRepeat DuplicateCut = true
+isRepeat DuplicateAddition = true
+isRepeat CutAddOverlap = false
+isRepeat RemovalNotCurrent = false
+isRepeat AdditionAlreadyPresent = false
+
+-- whether a rule is broken by an element that is not in the other list
+abbrev pub isMissing : Rule → Bool
+isMissing DuplicateBacker = false
+isMissing DuplicateCut = false
+isMissing DuplicateAddition = false
+isMissing CutAddOverlap = false
+isMissing RemovalNotCurrent = true
+isMissing AdditionAlreadyPresent = false
+
+-- whether the element at place i of l is found, or missing, in o: for a repeat, among the elements of o before i
+unfoldable pub held : List BasicPrefix → List BasicPrefix → Bool → Bool → ℕ → Bool
+held l o repeat missing i =
+    cond missing (not (has (at l i) (take (cond repeat i (length o)) o))) (has (at l i) (take (cond repeat i (length o)) o))
+
 -- one rule on a list: sound, or broken at the least place that breaks it
 unfoldable pub check : Rule → List BasicPrefix → List BasicPrefix → Membership
 check r l o = cond (ltb (first (breaks r l o) (length l)) (length l)) (Broken r (first (breaks r l o) (length l))) Sound

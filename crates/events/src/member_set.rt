@@ -2,12 +2,12 @@
 use cesr::primitive::BasicPrefix;
 use cesr::primitive::Matter;
 ghost use mathlib.Core.Path.{_≡_};
-ghost use mathlib.Core.Bool.{false};
+ghost use mathlib.Core.Bool.{true, false, cond, not};
 ghost use mathlib.Core.List.{[]};
-ghost use Prim.Native.Nat.{_≤_, _<_};
+ghost use Prim.Native.Nat.{ℕ, _≤_, _<_};
 ghost use lib.ListN.{length, take};
 ghost use lib.Dec.{ltb};
-ghost use Rattle.events.specs.Members.{view, noPrefix, at, pushed, has, breaks, check, orElse, checkMembers, checkDeltas, checkCurrent, Offends};
+ghost use Rattle.events.specs.Members.{view, noPrefix, at, pushed, has, isRepeat, isMissing, held, check, orElse, checkMembers, checkDeltas, checkCurrent, Offends};
 
 // The members are the first `count` of the items.
 #[repr(C)]
@@ -113,7 +113,7 @@ impl Members {
     {
         let mut i: usize = 0;
         while i < n {
-            if self.item(i).same(x) {
+            if self.items[i].same(x) {
                 return true;
             }
             i += 1;
@@ -164,33 +164,99 @@ fn no_prefix() -> BasicPrefix
     BasicPrefix(Matter::none())
 }
 
-// Whether the element at `i` of the list breaks the rule, held against the other list.
-fn breaks_at(rule: Rule, list: Members, other: Members, i: usize) -> bool
-    requires { ⌜ i < length (view list) ⌝ }
-    ensures { λ r. ⌜ r ≡ breaks rule (view list) (view other) i ⌝ }
+// Whether a rule is about an element that stands in its own list before.
+fn is_repeat(rule: Rule) -> bool
+    ensures { λ r. ⌜ r ≡ isRepeat rule ⌝ }
 {
-    let x = list.item(i);
     match rule {
-        Rule::DuplicateBacker => list.contains_below(i, x),
-        Rule::DuplicateCut => list.contains_below(i, x),
-        Rule::DuplicateAddition => list.contains_below(i, x),
-        Rule::CutAddOverlap => other.contains(x),
-        Rule::RemovalNotCurrent => !other.contains(x),
-        Rule::AdditionAlreadyPresent => other.contains(x),
+        Rule::DuplicateBacker => true,
+        Rule::DuplicateCut => true,
+        Rule::DuplicateAddition => true,
+        Rule::CutAddOverlap => false,
+        Rule::RemovalNotCurrent => false,
+        Rule::AdditionAlreadyPresent => false,
     }
+}
+
+// Whether a rule is broken by an element that is not in the other list.
+fn is_missing(rule: Rule) -> bool
+    ensures { λ r. ⌜ r ≡ isMissing rule ⌝ }
+{
+    match rule {
+        Rule::DuplicateBacker => false,
+        Rule::DuplicateCut => false,
+        Rule::DuplicateAddition => false,
+        Rule::CutAddOverlap => false,
+        Rule::RemovalNotCurrent => true,
+        Rule::AdditionAlreadyPresent => false,
+    }
+}
+
+// The list that the elements are held against: their own, for a repeat.
+fn held_against(repeat: bool, list: Members, other: Members) -> Members
+    ensures { λ r. ⌜ r ≡ cond repeat list other ⌝ }
+{
+    if repeat {
+        return list;
+    }
+    other
+}
+
+// How many of them the element at `i` is held against.
+fn until(repeat: bool, i: usize, n: usize) -> usize
+    ensures { λ r. ⌜ r ≡ cond repeat i n ⌝ }
+{
+    if repeat {
+        return i;
+    }
+    n
+}
+
+fn differs(found: bool, missing: bool) -> bool
+    ensures { λ r. ⌜ r ≡ cond missing (not found) found ⌝ }
+{
+    if missing {
+        return !found;
+    }
+    found
+}
+
+// The first place of the list whose element is found, or missing, among those that it is held against; the list's length where there is none.
+// The two loops are in one function, since a list is copied at every call.
+fn first_place(list: Members, other: Members, repeat: bool, missing: bool) -> usize
+    requires { ⌜ (repeat ≡ true → length (view list) ≤ length (view other)) ⌝ }
+    ensures { λ r. ⌜ (r ≤ length (view list)) × ((k : ℕ) → k < r → held (view list) (view other) repeat missing k ≡ false) × (r < length (view list) → held (view list) (view other) repeat missing r ≡ true) ⌝ }
+{
+    let n = list.size();
+    let m = other.size();
+    let mut i: usize = 0;
+    while i < n {
+        let x = list.items[i];
+        let end = until(repeat, i, m);
+        let mut found = false;
+        let mut j: usize = 0;
+        while j < end {
+            found = found | other.items[j].same(x);
+            j += 1;
+        }
+        if differs(found, missing) {
+            return i;
+        }
+        i += 1;
+    }
+    n
 }
 
 // One rule on a list: the first place that breaks it.
 fn check_rule(rule: Rule, list: Members, other: Members) -> Membership
     ensures { λ r. ⌜ r ≡ check rule (view list) (view other) ⌝ }
 {
-    let n = list.size();
-    let mut i: usize = 0;
-    while i < n {
-        if breaks_at(rule, list, other, i) {
-            return Membership::Broken { rule, at: i };
-        }
-        i += 1;
+    let repeat = is_repeat(rule);
+    let missing = is_missing(rule);
+    let against = held_against(repeat, list, other);
+    let at = first_place(list, against, repeat, missing);
+    if at < list.size() {
+        return Membership::Broken { rule, at };
     }
     Membership::Sound
 }
