@@ -1,5 +1,6 @@
 // What is printed of an attempt, and the ledger behind it (docs/RULES.md, "What the program prints").
-use ledger::ledger::Ledger;
+use ledger::ledger::apply;
+use ledger_table::table::Ledger;
 use ledger_text::text::write_line;
 use registry_error::error::Answer;
 ghost use mathlib.Core.Path.{_≡_};
@@ -7,7 +8,7 @@ ghost use Prim.Native.Nat.{_≤_};
 ghost use lib.ListN.{length};
 ghost use Rattle.laws.specs.Room.{put};
 ghost use Rattle.registry_error.specs.Errors.{answerNumber, answerLetter};
-ghost use Rattle.ledger.specs.LedgerValues.{viewLedger};
+ghost use Rattle.ledger_table.specs.Tables.{viewLedger};
 ghost use Rattle.ledger_text.specs.Lines.{sizeIn};
 ghost use Rattle.attempts.specs.Answering.{lineOf, nextOf};
 
@@ -50,7 +51,7 @@ pub(crate) fn answer_attempt(
     ensures ledger { λ r. ⌜ viewLedger (r .ledger) ≡ nextOf (viewLedger ledger) (now (attempt .entry)) ⌝ }
     ensures within { λ r. ⌜ r .size ≤ length (now (out .exit)) ⌝ }
 {
-    let applied = ledger.apply(attempt);
+    let applied = apply(ledger, attempt);
     let answer = applied.answer;
     let next = applied.ledger;
     let size = write_line(out, position, number(answer), letter(answer));

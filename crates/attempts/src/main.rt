@@ -3,10 +3,10 @@
 // comes to and how a line is written are functions with contracts; here they are only called, between reading and writing.
 mod line;
 
-use ledger::ledger::Ledger;
 use ledger_frames::framing::Run;
 use ledger_frames::framing::Size;
 use ledger_frames::framing::read_size;
+use ledger_table::table::Ledger;
 use ledger_text::text::write_last;
 use libc::STDIN_FILENO;
 use libc::STDOUT_FILENO;
@@ -15,7 +15,7 @@ ghost use mathlib.Core.Path.{_≡_};
 ghost use mathlib.Core.Bool.{cond};
 ghost use Prim.Native.Nat.{_≤_};
 ghost use lib.ListN.{length};
-ghost use Rattle.ledger.specs.LedgerValues.{viewLedger};
+ghost use Rattle.ledger_table.specs.Tables.{viewLedger};
 ghost use Rattle.attempts.specs.Answering.{nextOf};
 
 // The input's count of attempts.

@@ -23,8 +23,8 @@ use Rattle.ledger_lookup.specs.declared.lookup.LookedUp.{LookedUp}
 use Rattle.ledger_lookup.specs.Lookups.{keyPair, viewLookedUp}
 use Rattle.ledger_write.specs.declared.write.Written as Code
 use Rattle.ledger_write.specs.Writes.{viewWritten}
-use Rattle.ledger.specs.declared.ledger.Ledger as Value
-use Rattle.ledger.specs.LedgerValues.{viewLedger, ledgerAfter}
+use Rattle.ledger_table.specs.declared.table.Ledger as Value
+use Rattle.ledger_table.specs.Tables.{viewLedger, ledgerAfter}
 use Rattle.images.specs.declared.answer.Facts.{Facts}
 use Rattle.images.specs.declared.answer.Image.{Image}
 use Rattle.images.specs.Judgement.{digestUpTo, digestOf, storedOf, refusedShort, shortOf, keyIn, factsOf}

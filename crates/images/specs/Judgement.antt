@@ -9,7 +9,7 @@ use Rattle.cesr.specs.Primitives.{readMatter}
 use Rattle.registry_laws.specs.Pairs.{Pair}
 use Rattle.ledger_step.specs.Ledgers.{Ledger, lookUp}
 use Rattle.ledger_image.specs.Images.{ImageAnswer, Written, imageNumber, writtenOf}
-use Rattle.ledger.specs.LedgerValues.{ledgerAfter}
+use Rattle.ledger_table.specs.Tables.{ledgerAfter}
 use Rattle.images.specs.declared.answer.Facts.{Facts}
 use Rattle.images.specs.declared.answer.Image.{Image}
 

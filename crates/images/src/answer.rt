@@ -4,11 +4,14 @@ use cesr::number::read_u16;
 use cesr::number::read_u32;
 use cesr::primitive::Matter;
 use cesr::primitive::Said;
-use ledger::ledger::Ledger;
+use ledger::ledger::look_up;
+use ledger::ledger::read_image;
+use ledger::ledger::write_image;
+use ledger_table::table::Ledger;
 ghost use mathlib.Core.Path.{_≡_};
 ghost use Prim.Native.Nat.{_≤_};
 ghost use Rattle.ledger_image.specs.Images.{imageOf, writtenOf};
-ghost use Rattle.ledger.specs.LedgerValues.{viewLedger, ledgerAfter};
+ghost use Rattle.ledger_table.specs.Tables.{viewLedger, ledgerAfter};
 ghost use Rattle.images.specs.Judgement.{digestOf, storedOf, refusedShort, shortOf, keyIn, factsOf, agreesOf};
 
 pub struct Facts {
@@ -61,7 +64,7 @@ fn digest(s: &[u8]) -> u64
 fn written(ledger: Ledger, out: &mut [u8]) -> Image
     ensures { λ r. ⌜ r ≡ storedOf (writtenOf (viewLedger ledger) (now (out .entry))) ⌝ }
 {
-    let w = ledger.write_image(out);
+    let w = write_image(ledger, out);
     let size = w.size;
     let digest = digest(&out[..size]);
     Image { size, digest }
@@ -72,7 +75,7 @@ fn refused_short(ledger: Ledger, out: &mut [u8]) -> bool
     ensures { λ r. ⌜ r ≡ refusedShort (viewLedger ledger) (now (out .entry)) ⌝ }
 {
     let before = digest(out);
-    let w = ledger.write_image(out);
+    let w = write_image(ledger, out);
     (w.number == 30) & (digest(out) == before)
 }
 
@@ -101,13 +104,13 @@ pub(crate) fn answer(
     ensures facts { λ r. ⌜ r .facts ≡ factsOf (imageOf (now (image .entry))) (viewLedger ledger) (keyIn (now (first .entry))) (now (out .entry)) (now (other .entry)) ⌝ }
     ensures ledger { λ r. ⌜ viewLedger (r .ledger) ≡ ledgerAfter (imageOf (now (image .entry))) (viewLedger ledger) ⌝ }
 {
-    let read = ledger.read_image(image);
+    let read = read_image(ledger, image);
     let held = read.ledger;
     let w = written(held, out);
     let short = is_short(held, w.size, other);
     let registry = Said(Matter::read(first, 12));
     let credential = Said(Matter::read(first, 45));
-    let found = held.look_up(registry, credential);
+    let found = look_up(held, registry, credential);
     let facts = Facts {
         number: read.number,
         registries: held.registry_count,

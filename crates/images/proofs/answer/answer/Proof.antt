@@ -3,7 +3,7 @@ use denote.Ref.{now}
 use borrow.Author.Needs.{needs}
 use Rattle.ledger_step.specs.Ledgers.{lookUp}
 use Rattle.ledger_image.specs.Images.{imageOf}
-use Rattle.ledger.specs.LedgerValues.{viewLedger}
+use Rattle.ledger_table.specs.Tables.{viewLedger}
 use Rattle.images.specs.Judgement.{keyIn}
 use Rattle.images.proofs.Laws.{key-read, registries-counted, rows-counted, facts-found}
 use Rattle.images.proofs.answer.answer.Statement.{statement}

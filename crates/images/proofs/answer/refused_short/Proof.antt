@@ -1,6 +1,6 @@
 use denote.Ref.{now}
 use borrow.Author.Needs.{needs}
-use Rattle.ledger.specs.LedgerValues.{viewLedger}
+use Rattle.ledger_table.specs.Tables.{viewLedger}
 use Rattle.images.proofs.Laws.{short}
 use Rattle.images.proofs.answer.refused_short.Statement.{statement}
 use Rattle.images.proofs.answer.refused_short.Tie as tie

@@ -2,7 +2,7 @@ use mathlib.Core.Path.{sym}
 use lib.Seq.{length-take-le}
 use denote.Ref.{now}
 use borrow.Author.Needs.{needs}
-use Rattle.ledger.specs.LedgerValues.{viewLedger}
+use Rattle.ledger_table.specs.Tables.{viewLedger}
 use Rattle.images.proofs.Laws.{written-within, stored}
 use Rattle.images.proofs.answer.written.Statement.{statement}
 use Rattle.images.proofs.answer.written.Tie as tie
