@@ -1,5 +1,6 @@
 -- Laws of the bytes of a report.
 --     report-put   its marks and its two values, stored one behind the other in 36 bytes, are the report
+--     toad-number   the number of a threshold's answer
 use Prim.Native.Nat.{ℕ, _+_, _≤_}
 use mathlib.Core.Path.{_≡_, refl, ap, sym, _∙_}
 use mathlib.Core.List.{List, [], _∷_, _++_, append-nil}
@@ -12,7 +13,11 @@ use Rattle.laws.proofs.Number.{length-digits}
 use Rattle.laws.proofs.Room.{put-sets, put-append}
 use Rattle.cesr.specs.declared.number.Sn.{Sn}
 use Rattle.cesr.specs.Numbers.{value, snBytes}
-use Rattle.host_report.specs.Reports.{reportBytes}
+use Rattle.events.specs.Toads.{toadNumber}
+use Rattle.events.specs.declared.toad.ToadResult.{ToadResult}
+use Rattle.events.specs.declared.toad.ToadResult.the-variants.{Valid, OutOfRange, Overflow}
+use Rattle.registry_error.specs.Errors.{answerNumber}
+use Rattle.host_report.specs.Reports.{reportBytes, thresholdAnswer}
 
 -- a run as long as the list stands in its place
 whole : (l vs : List ℕ) → length vs ≡ length l → sets l 0 vs ≡ vs
@@ -28,3 +33,8 @@ report-put l values number letter awaited count a b h e f g =
     let r = put-append l 0 20 16 (marks ++ digits 16 (value a)) (digits 16 (value b)) n (length-digits 16 (value b)) (omega arith) in
     let m : length ((marks ++ digits 16 (value a)) ++ digits 16 (value b)) ≡ 36 = rw (length-append, n, length-digits) in
     rw (p, q, r, put-sets l 0 36 _ m (omega arith), whole l _ (m ∙ sym h), e, f, g)
+
+pub toad-number : (r : ToadResult) → answerNumber (thresholdAnswer r) ≡ toadNumber r
+toad-number (Valid t) = refl
+toad-number (OutOfRange t n) = refl
+toad-number (Overflow n) = refl

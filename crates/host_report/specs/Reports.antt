@@ -6,10 +6,16 @@ use lib.Dec.{eqb}
 use lib.ListN.{length, getD}
 use Rattle.laws.specs.Number.{digits}
 use Rattle.cesr.specs.Numbers.{value}
+use Rattle.events.specs.declared.toad.ToadResult.{ToadResult}
+use Rattle.events.specs.declared.toad.ToadResult.the-variants.{Valid, OutOfRange, Overflow}
 use Rattle.registry_error.specs.declared.error.RegistryRejection.{RegistryRejection}
+use Rattle.registry_error.specs.declared.error.RegistryRejection.the-variants.{Malformed, BackerThreshold}
+use Rattle.registry_error.specs.declared.error.CredentialError.{CredentialError}
 use Rattle.registry_error.specs.declared.error.Answer.{Answer}
 use Rattle.registry_error.specs.declared.error.Answer.the-variants.{Accepted, Rejected}
-use Rattle.registry_error.specs.Errors.{numberOf, dispositionOf, letterOf, awaitedOf, detailsOf}
+use Rattle.registry_error.specs.Errors.{numberOf, dispositionOf, letterOf, awaitedOf, detailsOf, errorNumber, errorDisposition}
+use Rattle.registry_credential.specs.declared.credential.StatusOutcome.{StatusOutcome}
+use Rattle.registry_credential.specs.declared.credential.StatusOutcome.the-variants as S
 use Rattle.ledger_lookup.specs.declared.lookup.LookedUp.{LookedUp}
 use Rattle.ledger_write.specs.declared.write.Written.{Written}
 use Rattle.host_report.specs.declared.values.Values.{Values}
@@ -29,10 +35,45 @@ acceptedReport values = reportBytes 0 65 0 values
 abbrev pub rejectionReport : RegistryRejection → List ℕ
 rejectionReport r = reportBytes (numberOf r) (letterOf (dispositionOf r)) (awaitedOf (dispositionOf r)) (detailsOf r)
 
--- the answer to an attempt
+-- the answer to an attempt: after acceptance the values are the call's own
+abbrev pub reportWith : Answer → List ℕ → List ℕ
+reportWith Accepted values = acceptedReport values
+reportWith (Rejected r) values = rejectionReport r
+
+-- the ledger's call gives none
 abbrev pub answerReport : Answer → List ℕ
-answerReport Accepted = acceptedReport []
-answerReport (Rejected r) = rejectionReport r
+answerReport a = reportWith a []
+
+-- a fold over bytes, how many bytes the next state has
+abbrev pub sizedReport : Answer → ℕ → List ℕ
+sizedReport a size = reportWith a (size ∷ [])
+
+-- `status` gives none, and its refusals have no details
+abbrev pub errorReport : CredentialError → List ℕ
+errorReport e = reportBytes (errorNumber e) (letterOf (errorDisposition e)) (awaitedOf (errorDisposition e)) []
+
+abbrev pub statusReport : StatusOutcome → List ℕ
+statusReport S.Accepted = acceptedReport []
+statusReport S.Malformed = rejectionReport Malformed
+statusReport (S.Rejected e) = errorReport e
+
+-- a threshold, or why there is none, as an answer; and its toad, 0 where there is none
+abbrev pub thresholdAnswer : ToadResult → Answer
+thresholdAnswer (Valid t) = Accepted
+thresholdAnswer (OutOfRange t n) = Rejected BackerThreshold
+thresholdAnswer (Overflow n) = Rejected BackerThreshold
+
+abbrev pub toadIn : ToadResult → ℕ
+toadIn (Valid t) = t .0
+toadIn (OutOfRange t n) = 0
+toadIn (Overflow n) = 0
+
+-- `exact` gives none, `ample` the toad
+abbrev pub exactReport : ToadResult → List ℕ
+exactReport r = reportWith (thresholdAnswer r) []
+
+abbrev pub ampleReport : ToadResult → List ℕ
+ampleReport r = reportWith (thresholdAnswer r) (toadIn r ∷ [])
 
 -- the answer of a call whose refusals are all terminal, with the letter T, and have no details; the values are given after acceptance only
 unfoldable pub plainReport : ℕ → List ℕ → List ℕ

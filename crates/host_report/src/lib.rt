@@ -1,3 +1,4 @@
 // The reports of the host's calls (docs/RULES.md, "Host's calls").
+pub mod folds;
 pub mod report;
 pub mod values;

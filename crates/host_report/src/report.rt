@@ -13,7 +13,7 @@ ghost use Prim.Native.Nat.{_≤_};
 ghost use lib.ListN.{length};
 ghost use lib.Seq.{sets};
 ghost use Rattle.registry_error.specs.Errors.{numberOf, answerNumber};
-ghost use Rattle.host_report.specs.Reports.{valuesOf, reportBytes, rejectionReport, answerReport, plainReport, lookedUpReport, writtenReport, readReport};
+ghost use Rattle.host_report.specs.Reports.{valuesOf, reportBytes, rejectionReport, reportWith, answerReport, plainReport, lookedUpReport, writtenReport, readReport};
 
 // The first four bytes.
 fn put_marks(out: &mut [u8], number: u8, letter: u8, awaited: u8, count: u8)
@@ -41,20 +41,27 @@ pub fn write_report(
     number
 }
 
-fn report_rejection(r: RegistryRejection, report: &mut [u8; 36]) -> u8
+pub(crate) fn report_rejection(r: RegistryRejection, report: &mut [u8; 36]) -> u8
     ensures { λ n. ⌜ (n ≡ numberOf r) × (now (report .exit) ≡ rejectionReport r) ⌝ }
 {
     let d = r.disposition();
     write_report(r.number(), d.letter(), awaited(d), details(r), report)
 }
 
+// After acceptance the values are the call's own, after a refusal its details.
+pub fn report_with(answer: Answer, values: Values, report: &mut [u8; 36]) -> u8
+    ensures { λ r. ⌜ (r ≡ answerNumber answer) × (now (report .exit) ≡ reportWith answer (valuesOf values)) ⌝ }
+{
+    match answer {
+        Answer::Accepted => write_report(0, b'A', 0, values, report),
+        Answer::Rejected(r) => report_rejection(r, report),
+    }
+}
+
 pub fn report_answer(answer: Answer, report: &mut [u8; 36]) -> u8
     ensures { λ r. ⌜ (r ≡ answerNumber answer) × (now (report .exit) ≡ answerReport answer) ⌝ }
 {
-    match answer {
-        Answer::Accepted => write_report(0, b'A', 0, Values::Nothing, report),
-        Answer::Rejected(r) => report_rejection(r, report),
-    }
+    report_with(answer, Values::Nothing, report)
 }
 
 // The report of a call whose refusals are all terminal and have no details: the values are those of an acceptance.

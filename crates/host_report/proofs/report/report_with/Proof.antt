@@ -1,6 +1,6 @@
 use borrow.Author.Needs.{needs}
-use Rattle.host_report.proofs.report.report_answer.Statement.{statement}
-use Rattle.host_report.proofs.report.report_answer.Tie as tie
+use Rattle.host_report.proofs.report.report_with.Statement.{statement}
+use Rattle.host_report.proofs.report.report_with.Tie as tie
 
 enum-told : tie.Need-enum-told
 enum-told c = search needs
@@ -20,8 +20,8 @@ returns c = rw (c .before .before .enum-told .given .1) (c .write-report .ensure
 returns-2 : tie.Need-returns-2
 returns-2 c = rw (c .before .before .before .answer .given .1) (c .report-rejection .ensures)
 
-pub report-answer-spec : {M : Type 1} → statement M
-report-answer-spec =
+pub report-with-spec : {M : Type 1} → statement M
+report-with-spec =
     tie.close
     (tie.spec
     enum-told

@@ -1,0 +1,2 @@
+pub mod StatesIn
+pub mod Calls
