@@ -31,8 +31,6 @@ pub fn malformed(report: &mut [u8; 36]) -> u8
 pub fn fitted(answer: Answer, size: usize, room: usize) -> Answer
     ensures { λ r. ⌜ r ≡ orElse answer (acceptIf (leb size room) ShortBuffer) ⌝ }
 {
-    or_else(
-        answer,
-        accept_if(size <= room, RegistryRejection::ShortBuffer),
-    )
+    let fits = accept_if(size <= room, RegistryRejection::ShortBuffer);
+    or_else(answer, fits)
 }
