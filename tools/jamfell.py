@@ -79,18 +79,18 @@ def _calling_commands(words):
             command.add_argument("credential", help="the credential's said")
 
 
-def _arguments():
+def _arguments(given):
     parser = argparse.ArgumentParser(prog="jamfell.py", description=__doc__)
     words = parser.add_subparsers(required=True, metavar="COMMAND")
     _bytes_commands(words)
     _calling_commands(words)
-    return parser.parse_args()
+    return parser.parse_args(given)
 
 
-def main():
+def main(given=None):
     for stream in (sys.stdout, sys.stderr):
         stream.reconfigure(errors="backslashreplace")
-    args = _arguments()
+    args = _arguments(given)
     try:
         status = args.do(args)
         sys.stdout.flush()

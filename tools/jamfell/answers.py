@@ -108,12 +108,15 @@ def answer_lines(report):
     """Some lines for a refusal, none for an acceptance."""
     if report.number == 0:
         return []
-    values = details(report)
-    lines = [cause(report.row) + (f" ({values})" if values else "")]
-    if report.row.more and report.row.more != cause(report.row):
-        lines.append(report.row.more)
+    row, values = report.row, details(report)
+    lines = [f"{cause(row)}: {values}" if values else cause(row), row.more]
+    if report.number == 24:
+        lines = [values or row.more]
+    if row.more == cause(row):
+        lines = lines[:1]
     lines.append(_letter(report.letter))
-    return lines + [f"awaited: {_awaited(report.awaits)}"] if report.awaits else lines
+    lines.append(f"awaited: {_awaited(report.awaits)}" if report.awaits else "")
+    return [line for line in lines if line]
 
 
 def _accepted_value(value):

@@ -81,12 +81,14 @@ def _show_attempts(path, names):
     frames, broken = cut_frames(read_bytes(path))
     status = 0
     for position, (start, data) in enumerate(frames, 1):
+        if position > 1:
+            print()
         print(f"# attempt {position}: {len(data)} bytes from byte {start}")
         try:
-            print(attempt_text(decode_attempt(data), names))
+            print(attempt_text(decode_attempt(data), names), end="")
         except Malformed as why:
             print(f"# malformed: {why}")
-            print(raw_text(data))
+            print(raw_text(data), end="")
             complain(path, f"attempt {position} is malformed: {why}, which is byte {start + why.at} of the file")
             status = 1
     if broken:
