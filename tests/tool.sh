@@ -1,6 +1,7 @@
 #!/usr/bin/env bash
-# The tests of tools/jamfell.py: recorded inputs, round trips, broken texts, the numbers of docs/RULES.md, and what docs/WALKTHROUGH.md shows. The last line
-# counts what ran. Where this repository has the crate `host`, its library is built and called; without the crate these tests are left out, and the line says so.
+# The tests of tools/jamfell.py: recorded inputs, round trips, broken texts, the numbers of docs/RULES.md, and what docs/WALKTHROUGH.md
+# shows. The last line counts what ran. Where this repository has the crate `host`, its library is built and called; without the crate the
+# tests that call it are left out, and the last line says so.
 set -euo pipefail
 cd "$(dirname "$0")/.."
 rt check attempts >/dev/null

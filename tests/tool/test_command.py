@@ -1,74 +1,15 @@
-"""The tool as a person runs it: what it prints, where, and with which status. No input may end in a traceback."""
+"""The commands that need no library. No input may end in a traceback."""
 
-import importlib.util
-import io
 import os
-import shutil
 import subprocess
 import sys
-import tempfile
-import unittest
-from pathlib import Path
 
-from recorded import ROOT, count, images, inputs
+from recorded import ROOT, images, inputs
 from test_text import IMAGE
-
-TOOL = ROOT / "tools/jamfell.py"
-SAMPLES = ROOT / "tools/samples"
+from tool_case import SAMPLES, TOOL, ToolCase
 
 
-def tool_main():
-    """The tool's own start. It stands beside a package of its name, so it is loaded by its place."""
-    spec = importlib.util.spec_from_file_location("jamfell_tool", TOOL)
-    module = importlib.util.module_from_spec(spec)
-    spec.loader.exec_module(module)
-    return module.main
-
-
-MAIN = tool_main()
-
-
-class Commands(unittest.TestCase):
-    def setUp(self):
-        self.folder = Path(tempfile.mkdtemp())
-        self.addCleanup(shutil.rmtree, self.folder)
-
-    def file(self, name, data):
-        path = self.folder / name
-        path.write_bytes(data if isinstance(data, bytes) else data.encode())
-        return path
-
-    def run_tool(self, *words, given=b""):
-        """In this process, which saves the start of Python. What main() does not catch, a traceback for the user, fails the test."""
-        kept = sys.stdin, sys.stdout, sys.stderr, os.getcwd()
-        sys.stdin, sys.stdout, sys.stderr = (io.TextIOWrapper(io.BytesIO(data), "utf-8") for data in (given, b"", b""))
-        os.chdir(self.folder)
-        try:
-            status = MAIN([str(word) for word in words])
-        except SystemExit as end:
-            status = end.code
-        finally:
-            streams = sys.stdout, sys.stderr
-            sys.stdin, sys.stdout, sys.stderr = kept[:3]
-            os.chdir(kept[3])
-        count("commands")
-        for stream in streams:
-            stream.flush()
-        return status, *(stream.buffer.getvalue().decode() for stream in streams)
-
-    def good(self, *words, given=b""):
-        status, out, err = self.run_tool(*words, given=given)
-        self.assertEqual((status, err), (0, ""), words)
-        return out
-
-    def refused(self, *words, given=b""):
-        """The one line that says why."""
-        status, _, err = self.run_tool(*words, given=given)
-        self.assertEqual(status, 1, words)
-        self.assertEqual(err.count("\n"), 1, err)
-        self.assertTrue(err.startswith("jamfell: "), err)
-        return err.removeprefix("jamfell: ").rstrip("\n")
-
+class Commands(ToolCase):
     def test_inputs(self):
         """show, then make, gives an input again, malformed attempts included. Where it is broken, only what is whole comes back."""
         for path, data, lines in inputs():
@@ -152,6 +93,8 @@ class Commands(unittest.TestCase):
             (("show", "--attempt", binary), f"{binary}: byte 0 (kind): the kind byte is 0, and not 1 to 6"),
             (("show", "--image", binary), f"{binary}: byte 2 (registry 1, id): the bytes end too early: 33 are needed here, and 2 left"),
             (("show", empty), f"{empty}: broken: byte 0 (the count of attempts): the bytes end too early: 2 are needed here, and 0 left"),
+            (("show", self.file("a.img", bytes(4))), f"{self.folder / 'a.img'}: broken: byte 2 (behind the end): 2 bytes too many: nothing may follow the last section; it can be read with --image"),
+            (("show", self.file("b.txt", "atte")), f"{self.folder / 'b.txt'}: broken: byte 4 (attempt 1 of 24948): the bytes end too early: 29797 are needed here, and 0 left; it is text, which `make` reads"),
             (("show", SAMPLES / "issue.txt", "--names", binary), f"{binary}: byte 2: this is no text; `show` reads files of bytes"),
             (("explain", "40"), "there is no number 40: the numbers are 0 to 39"),
             (("explain", "\u0663"), "'\u0663' is no number: the numbers are 0 to 39"),

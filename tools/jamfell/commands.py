@@ -76,23 +76,37 @@ def make(args):
     return 0
 
 
+def _other_form(data):
+    """What bytes are that are no input of the printed program, where that is plain."""
+    if data and all(byte in b"\t\n\r" or 32 <= byte < 127 for byte in data):
+        return "; it is text, which `make` reads"
+    for form, decode in [("image", decode_image)] + [(form, single[2]) for form, single in SINGLES.items()]:
+        try:
+            decode(data)
+            return f"; it can be read with --{form}"
+        except Malformed:
+            continue
+    return ""
+
+
 def _show_attempts(path, names):
     """All attempts that are there whole. One that is malformed is told in bytes, with the place of its fault."""
-    frames, broken = cut_frames(read_bytes(path))
+    data = read_bytes(path)
+    frames, broken = cut_frames(data)
     status = 0
-    for position, (start, data) in enumerate(frames, 1):
+    for position, (start, attempt) in enumerate(frames, 1):
         if position > 1:
             print()
-        print(f"# attempt {position}: {len(data)} bytes from byte {start}")
+        print(f"# attempt {position}: {len(attempt)} bytes from byte {start}")
         try:
-            print(attempt_text(decode_attempt(data), names), end="")
+            print(attempt_text(decode_attempt(attempt), names), end="")
         except Malformed as why:
             print(f"# malformed: {why}")
-            print(raw_text(data), end="")
+            print(raw_text(attempt), end="")
             complain(path, f"attempt {position} is malformed: {why}, which is byte {start + why.at} of the file")
             status = 1
     if broken:
-        complain(path, f"broken: {broken}")
+        complain(path, f"broken: {broken}{_other_form(data)}")
         status = 1
     return status
 

@@ -33,7 +33,7 @@ _CALLS = {
 }
 
 
-def _shared(archive, folder):
+def shared_object(archive, folder):
     """A shared object that has all of the archive."""
     compiler = shutil.which("gcc") or shutil.which("cc")
     if not compiler:
@@ -53,7 +53,7 @@ class Library:
             raise Fault(f"{archive}: the library is not there; `rt staticlib host` makes it")
         with tempfile.TemporaryDirectory() as folder:
             try:
-                self._object = ctypes.CDLL(str(_shared(archive, folder) if archive.suffix == ".a" else archive.resolve()))
+                self._object = ctypes.CDLL(str(shared_object(archive, folder) if archive.suffix == ".a" else archive.resolve()))
             except OSError as why:
                 raise Fault(f"{archive}: it can't be loaded: {why}") from None
 
