@@ -87,26 +87,38 @@ def _arguments(given):
     return parser.parse_args(given)
 
 
-def main(given=None):
+def _streams():
+    """Standard streams that take every character, and are there even where the caller closed them."""
+    for name, mode in (("stdin", "r"), ("stdout", "w"), ("stderr", "w")):
+        if getattr(sys, name) is None:
+            setattr(sys, name, open(os.devnull, mode))
     for stream in (sys.stdout, sys.stderr):
         stream.reconfigure(errors="backslashreplace")
+
+
+def main(given=None):
+    _streams()
     args = _arguments(given)
     try:
         status = args.do(args)
         sys.stdout.flush()
         return status
-    except BrokenPipeError:
-        # Whoever read the output has had enough. What is left of it goes nowhere.
-        os.dup2(os.open(os.devnull, os.O_WRONLY), sys.stdout.fileno())
-        return 1
     except Fault as why:
-        sys.stdout.flush()
-        print(f"jamfell: {why}", file=sys.stderr)
+        told = str(why)
+    except BrokenPipeError:
+        # Whoever read the output has had enough.
+        told = ""
     except OSError as why:
-        sys.stdout.flush()
-        print(f"jamfell: {why.filename or 'file'}: {why.strerror or why}", file=sys.stderr)
+        told = f"{why.filename or 'output'}: {why.strerror or why}"
     except KeyboardInterrupt:
         return 130
+    try:
+        sys.stdout.flush()
+    except OSError:
+        # The output takes no more, so what is left of it goes nowhere.
+        os.dup2(os.open(os.devnull, os.O_WRONLY), sys.stdout.fileno())
+    if told:
+        print(f"jamfell: {told}", file=sys.stderr)
     return 1
 
 

@@ -124,6 +124,18 @@ class Commands(ToolCase):
         tool.stderr.close()
         tool.wait()
 
+    def test_full(self):
+        """An output that takes nothing is told too."""
+        with open("/dev/full", "wb") as full:
+            said = subprocess.run([TOOL, "explain"], stdout=full, stderr=subprocess.PIPE)
+        self.assertEqual((said.returncode, said.stderr), (1, b"jamfell: output: No space left on device\n"))
+
+    def test_closed(self):
+        """Closed streams are empty ones."""
+        for words in ("explain 1 >&-", "explain 99 2>&-", "show - <&- 2>/dev/null"):
+            said = subprocess.run(["bash", "-c", f"'{TOOL}' {words}"], capture_output=True)
+            self.assertEqual((said.returncode, said.stderr), (0 if words == "explain 1 >&-" else 1, b""), words)
+
     def test_folder_stays(self):
         """The tool leaves nothing in the repository."""
         before = sorted(os.listdir(ROOT / "tools/jamfell"))
