@@ -73,7 +73,7 @@ class Numbers(unittest.TestCase):
         self.assertEqual(", ".join(f"{letter} {name}" for letter, (name, _) in DISPOSITIONS.items()), names)
         for letter, (_, advice) in DISPOSITIONS.items():
             if advice:
-                self.assertRegex(RULES, rf"; {letter}, {advice}|: {letter}, {advice}")
+                self.assertRegex(RULES, rf"[:;] {letter}, {re.escape(advice)}[;.]")
 
     def test_lists(self):
         """What stands behind the bytes: traits, seals, kinds, letters of the roles, rules of 24, standings."""
