@@ -57,6 +57,13 @@ class Commands(ToolCase):
             plain = [line.split("#")[0].split() for line in text.splitlines()]
             self.assertEqual([line.split() for line in told.splitlines() if line.split("#")[0]], [line for line in plain if line], form)
 
+    def test_editors(self):
+        """Other line ends, and the mark that some editors put in front, make the same bytes."""
+        text = (SAMPLES / "day.txt").read_text()
+        for name, data in (("plain", text), ("other", "\ufeff" + text.replace("\n", "\r\n"))):
+            self.good("make", self.file(f"{name}.txt", data), "-o", f"{name}.bin")
+        self.assertEqual((self.folder / "plain.bin").read_bytes(), (self.folder / "other.bin").read_bytes())
+
     def test_reading_rules(self):
         """Text that would make an image which no ledger reads."""
         second = IMAGE + IMAGE[: IMAGE.index("credential-state")]

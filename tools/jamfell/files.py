@@ -17,10 +17,10 @@ def read_bytes(path):
 
 
 def read_words(path):
-    """A file's text."""
+    """A file's text. The mark that some editors put in front of it is no part of it."""
     data = read_bytes(path)
     try:
-        return data.decode()
+        return data.decode("utf-8-sig")
     except UnicodeDecodeError as why:
         raise Fault(f"{path}: byte {why.start}: this is no text; `show` reads files of bytes") from None
 
