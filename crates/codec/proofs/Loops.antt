@@ -3,8 +3,10 @@
 --     times-next      one element more, and the cursor alone
 --     times-pushed    one element more, pushed to a list that has room for it
 --     section-none, section-one   a section of at most one element, by its count
+--     view-put        a prefix more, stored in its place
+--     listed-read     a list that stays in the bytes
 --     configs-room    a list of fewer than 8 config bytes has room for one more
-use Prim.Native.Nat.{ℕ, zero, suc, _+_, _<_, _≤_}
+use Prim.Native.Nat.{ℕ, zero, suc, _+_, _<_, _≤_, min}
 use mathlib.Core.Path.{_≡_, refl, ap, _∙_}
 use mathlib.Core.Bool.{Bool, true, false, cond}
 use mathlib.Core.List.{List, [], _∷_, _++_}
@@ -12,10 +14,16 @@ use native.Mathlib.Omega.{arith}
 use native.Mathlib.Numerals.{add-one}
 use borrow.Author.Tests.{lt-ltb, leb-true}
 use lib.Dec.{leb}
-use lib.ListN.{length, length-append}
+use lib.ListN.{length, take, set, length-append}
+use Rattle.cesr.specs.declared.primitive.BasicPrefix.{BasicPrefix}
+use Rattle.events.specs.declared.member_set.Members.{Members}
+use Rattle.events.specs.Members.{view}
+use Rattle.events.proofs.Members.{view-push}
+use Rattle.events_tel.specs.TelEvents.{membersIn}
 use Rattle.events_tel.specs.Configs.{hasRoom, pushed}
 use Rattle.codec_cursor.specs.declared.cursor.Cursor.{Cursor}
-use Rattle.codec_cursor.specs.Readers.{Read, Reader, stopped, need, readByte, times, countUpTo, section}
+use Rattle.codec_cursor.specs.Readers.{Read, Reader, stopped, need, readByte, readPrefix, times, countUpTo, section}
+use Rattle.codec.specs.Events.{readPrefixes}
 
 pub count-within : (limit : ℕ) (s : List ℕ) (c : Cursor) (r : Read ℕ) → r ≡ countUpTo limit s c → r .value ≤ limit
 unfolding countUpTo need
@@ -44,6 +52,18 @@ module _ {A : Type 0} (p : Reader A) (s : List ℕ) (c : Cursor) where
   times-pushed k push room n l m d r b e f g =
       let h : length l ≡ n = ap (λ (q : Read (List A)). length (q .value)) e ∙ length-times n in
       rw (add-one, ← e, ← f, g, room l (r .value) (omega arith))
+
+-- a prefix more, stored in its place
+pub view-put : (l : List BasicPrefix) (i : ℕ) (p : BasicPrefix) → length l ≡ 16 → i < 16 → take (i + 1) (set l i p) ≡ take i l ++ (p ∷ [])
+unfolding view
+view-put l i p h b = view-push (record { items = l; count = i }) h p b
+
+-- a list that stays in the bytes, behind its count
+pub listed-read : (s : List ℕ) (c d : Cursor) (n : Read ℕ) → n ≡ countUpTo 16 s c → d ≡ times (n .value) readPrefix s (n .next) .next → record { value = membersIn s (record { count = n .value; start = n .next }); next = d } ≡ readPrefixes s c
+unfolding membersIn readPrefixes section
+listed-read s c d n e f =
+    let w : min (n .value) 16 ≡ n .value = omega (arith, count-within 16 s c n e) in
+    ap (λ (k : ℕ). record { value = times k readPrefix s (n .next) .value; next = d }) w ∙ rw (← e, f)
 
 pub configs-room : (l : List ℕ) (x : ℕ) → length l < 8 → pushed l x ≡ l ++ (x ∷ [])
 unfolding pushed hasRoom

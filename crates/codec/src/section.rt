@@ -1,15 +1,21 @@
 // The sections that a layout is made of: a count byte, then that many elements (docs/RULES.md, "Bytes").
 use cesr::number::Sn;
+use cesr::primitive::BasicPrefix;
+use cesr::primitive::Matter;
 use codec_cursor::cursor::ByteRead;
 use codec_cursor::cursor::Cursor;
 use events::identifier::Identifier;
 use events::member_set::Members;
 use events::seal::Seal;
 use events_tel::config::Configs;
+use events_tel::tel::Listed;
 use events_toad::toad::Toad;
 ghost use mathlib.Core.Path.{_≡_};
-ghost use Rattle.codec_cursor.specs.Readers.{countUpTo, section, viewByte};
-ghost use Rattle.codec.specs.Events.{readConfig, readConfigs, readPrefixes, readToad, sealOf, readEventSeal, readOtherSeal, readSeal, viewCountRead, viewConfigsRead, viewPrefixesRead, viewToadRead, viewSealRead};
+ghost use Prim.Native.Nat.{_≤_, min};
+ghost use Rattle.events.specs.Members.{view};
+ghost use Rattle.events_tel.specs.TelEvents.{membersIn};
+ghost use Rattle.codec_cursor.specs.Readers.{countUpTo, section, times, readPrefix, viewByte};
+ghost use Rattle.codec.specs.Events.{readConfig, readConfigs, readPrefixes, readToad, sealOf, readEventSeal, readOtherSeal, readSeal, viewCountRead, viewConfigsRead, viewPrefixesRead, viewListedRead, viewToadRead, viewSealRead};
 
 pub struct CountRead {
     pub value: usize,
@@ -23,6 +29,11 @@ pub struct ConfigsRead {
 
 pub struct PrefixesRead {
     pub value: Members,
+    pub next: Cursor,
+}
+
+pub struct ListedRead {
+    pub value: Listed,
     pub next: Cursor,
 }
 
@@ -78,21 +89,66 @@ pub fn read_configs(c: Cursor, s: &[u8]) -> ConfigsRead
     ConfigsRead { value, next }
 }
 
+// So many prefixes from a cursor on. Each is stored in its place, since a list is copied at every call.
+fn read_members(c: Cursor, s: &[u8], count: usize) -> PrefixesRead
+    requires { ⌜ count ≤ 16 ⌝ }
+    ensures read { λ r. ⌜ viewPrefixesRead r ≡ times count readPrefix (now (s .entry)) c ⌝ }
+    ensures count { λ r. ⌜ r .value .count ≡ count ⌝ }
+{
+    let none = BasicPrefix(Matter::none());
+    let mut items = [none; 16];
+    let mut next = c;
+    let mut i: usize = 0;
+    while i < count {
+        let p = next.prefix(s);
+        let prefix = p.value;
+        items[i] = prefix;
+        next = p.next;
+        i += 1;
+    }
+    let value = Members { items, count };
+    PrefixesRead { value, next }
+}
+
 pub fn read_prefixes(c: Cursor, s: &[u8]) -> PrefixesRead
     ensures { λ r. ⌜ viewPrefixesRead r ≡ readPrefixes (now (s .entry)) c ⌝ }
 {
     let n = count_up_to(c, s, 16);
-    let count = n.value;
-    let mut next = n.next;
-    let mut value = Members::empty();
+    read_members(n.next, s, n.value)
+}
+
+// Behind a section of at most 16 prefixes, each held to its layout. They stay in the bytes.
+pub fn pass_prefixes(c: Cursor, s: &[u8]) -> ListedRead
+    ensures { λ r. ⌜ viewListedRead (now (s .entry)) r ≡ readPrefixes (now (s .entry)) c ⌝ }
+{
+    let listed = count_up_to(c, s, 16);
+    let count = listed.value;
+    let start = listed.next;
+    let mut next = listed.next;
     let mut i: usize = 0;
     while i < count {
         let p = next.prefix(s);
-        value = value.push(p.value).members;
         next = p.next;
         i += 1;
     }
-    PrefixesRead { value, next }
+    ListedRead {
+        value: Listed { count, start },
+        next,
+    }
+}
+
+fn at_most_16(n: usize) -> usize
+    ensures { λ r. ⌜ r ≡ min n 16 ⌝ }
+{
+    if 16 < n { 16 } else { n }
+}
+
+// The prefixes of a list that stays in the bytes.
+pub fn members_in(s: &[u8], list: Listed) -> Members
+    ensures { λ r. ⌜ (view r ≡ membersIn (now (s .entry)) list) × (r .count ≤ 16) ⌝ }
+{
+    let r = read_members(list.start, s, at_most_16(list.count));
+    r.value
 }
 
 // A threshold has 16 bytes in an event, and has to fit 32 bits.

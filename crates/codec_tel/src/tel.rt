@@ -2,15 +2,15 @@
 use cesr::number::Sn;
 use cesr::primitive::Matter;
 use cesr::primitive::Said;
+use codec::section::pass_prefixes;
 use codec::section::read_configs;
-use codec::section::read_prefixes;
 use codec::section::read_seal;
 use codec::section::read_toad;
 use codec_cursor::cursor::Cursor;
-use events::member_set::Members;
 use events::seal::Seal;
 use events_tel::config::Configs;
 use events_tel::tel::Kind;
+use events_tel::tel::Listed;
 use events_tel::tel::TelEvent;
 use events_toad::toad::Toad;
 ghost use mathlib.Core.Path.{_≡_};
@@ -30,7 +30,8 @@ fn blank(kind: Kind, said: Said, seal: Seal) -> TelEvent
     let none = Matter::none();
     let toad = Toad::from_wire(0);
     let configs = Configs::empty();
-    let members = Members::empty();
+    let start = Cursor::start();
+    let members = Listed { count: 0, start };
     TelEvent {
         kind,
         said,
@@ -64,13 +65,13 @@ fn pass_empty(c: Cursor, s: &[u8]) -> Cursor
 }
 
 fn read_vcp(c: Cursor, s: &[u8]) -> EventRead
-    ensures { λ r. ⌜ viewEventRead r ≡ readVcp (now (s .entry)) c ⌝ }
+    ensures { λ r. ⌜ viewEventRead (now (s .entry)) r ≡ readVcp (now (s .entry)) c ⌝ }
 {
     let vcp = c.count(s, 2).said(s);
     let issuer = vcp.next.identifier(s);
     let toad = read_toad(issuer.next.count(s, 1), s);
     let configs = read_configs(toad.next, s);
-    let backers = read_prefixes(configs.next, s);
+    let backers = pass_prefixes(configs.next, s);
     let next = backers.next.count(s, 0).count(s, 0);
     let mut value = blank(Kind::Vcp, vcp.value, Seal::Digest);
     let issuer = issuer.value;
@@ -85,15 +86,15 @@ fn read_vcp(c: Cursor, s: &[u8]) -> EventRead
 }
 
 fn read_vrt(c: Cursor, s: &[u8]) -> EventRead
-    ensures { λ r. ⌜ viewEventRead r ≡ readVrt (now (s .entry)) c ⌝ }
+    ensures { λ r. ⌜ viewEventRead (now (s .entry)) r ≡ readVrt (now (s .entry)) c ⌝ }
 {
     let vrt = c.count(s, 3).said(s);
     let registry = vrt.next.said(s);
     let prior = registry.next.said(s);
     let sn = prior.next.count(s, 2).sn(s);
     let toad = read_toad(sn.next, s);
-    let cuts = read_prefixes(toad.next.count(s, 0), s);
-    let additions = read_prefixes(cuts.next, s);
+    let cuts = pass_prefixes(toad.next.count(s, 0), s);
+    let additions = pass_prefixes(cuts.next, s);
     let next = additions.next.count(s, 0);
     let e = blank(Kind::Vrt, vrt.value, Seal::Digest);
     let mut value = with_saids(e, e.credential, registry.value, prior.value);
@@ -109,7 +110,7 @@ fn read_vrt(c: Cursor, s: &[u8]) -> EventRead
 }
 
 fn read_iss(c: Cursor, s: &[u8]) -> EventRead
-    ensures { λ r. ⌜ viewEventRead r ≡ readIss (now (s .entry)) c ⌝ }
+    ensures { λ r. ⌜ viewEventRead (now (s .entry)) r ≡ readIss (now (s .entry)) c ⌝ }
 {
     let iss = c.count(s, 3).said(s);
     let credential = iss.next.said(s);
@@ -121,7 +122,7 @@ fn read_iss(c: Cursor, s: &[u8]) -> EventRead
 }
 
 fn read_rev(c: Cursor, s: &[u8]) -> EventRead
-    ensures { λ r. ⌜ viewEventRead r ≡ readRev (now (s .entry)) c ⌝ }
+    ensures { λ r. ⌜ viewEventRead (now (s .entry)) r ≡ readRev (now (s .entry)) c ⌝ }
 {
     let rev = c.count(s, 4).said(s);
     let credential = rev.next.said(s);
@@ -134,7 +135,7 @@ fn read_rev(c: Cursor, s: &[u8]) -> EventRead
 }
 
 fn read_bis(c: Cursor, s: &[u8]) -> EventRead
-    ensures { λ r. ⌜ viewEventRead r ≡ readBis (now (s .entry)) c ⌝ }
+    ensures { λ r. ⌜ viewEventRead (now (s .entry)) r ≡ readBis (now (s .entry)) c ⌝ }
 {
     let bis = c.count(s, 3).said(s);
     let credential = bis.next.said(s);
@@ -148,7 +149,7 @@ fn read_bis(c: Cursor, s: &[u8]) -> EventRead
 }
 
 fn read_brv(c: Cursor, s: &[u8]) -> EventRead
-    ensures { λ r. ⌜ viewEventRead r ≡ readBrv (now (s .entry)) c ⌝ }
+    ensures { λ r. ⌜ viewEventRead (now (s .entry)) r ≡ readBrv (now (s .entry)) c ⌝ }
 {
     let brv = c.count(s, 3).said(s);
     let credential = brv.next.said(s);
@@ -163,7 +164,7 @@ fn read_brv(c: Cursor, s: &[u8]) -> EventRead
 
 // A kind byte that is not 1 to 6 is a fault.
 pub fn read_event(c: Cursor, s: &[u8]) -> EventRead
-    ensures { λ r. ⌜ viewEventRead r ≡ readEvent (now (s .entry)) c ⌝ }
+    ensures { λ r. ⌜ viewEventRead (now (s .entry)) r ≡ readEvent (now (s .entry)) c ⌝ }
 {
     let k = c.byte(s);
     let kind = k.value;

@@ -1,13 +1,14 @@
 -- The six events, each with what it carries (docs/RULES.md, "Event kinds").
-use Prim.Native.Nat.{ℕ}
+use Prim.Native.Nat.{ℕ, min}
 use mathlib.Core.List.{List}
 use Rattle.cesr.specs.declared.number.Sn.{Sn}
 use Rattle.cesr.specs.declared.primitive.Matter.{Matter}
 use Rattle.cesr.specs.declared.primitive.Said.{Said}
 use Rattle.cesr.specs.declared.primitive.BasicPrefix.{BasicPrefix}
 use Rattle.events_tel.specs.Configs.{viewConfigs}
-use Rattle.events.specs.Members.{view}
 use Rattle.events.specs.declared.seal.Seal.{Seal}
+use Rattle.codec_cursor.specs.Readers.{readPrefix, times}
+use Rattle.events_tel.specs.declared.tel.Listed.{Listed}
 use Rattle.events_tel.specs.declared.tel.Kind.{Kind}
 use Rattle.events_tel.specs.declared.tel.Kind.the-variants.{Vcp, Vrt, Iss, Rev, Bis, Brv}
 use Rattle.events_tel.specs.declared.tel.TelEvent.{TelEvent}
@@ -50,14 +51,18 @@ pub data Event : Type 0 where
   -- said, credential, prior, the event's own seal
   brv : Said → Said → Said → Seal → Event
 
--- what a struct of a kind stands for
-abbrev pub eventAs : Kind → TelEvent → Event
-eventAs Vcp e = vcp (e .said) (e .issuer) (e .toad .0) (viewConfigs (e .configs)) (view (e .backers))
-eventAs Vrt e = vrt (e .said) (e .registry) (e .prior) (e .sn) (e .toad .0) (view (e .backers)) (view (e .additions))
-eventAs Iss e = iss (e .said) (e .credential) (e .registry)
-eventAs Rev e = rev (e .said) (e .credential) (e .registry) (e .prior)
-eventAs Bis e = bis (e .said) (e .credential) (e .registry) (e .seal)
-eventAs Brv e = brv (e .said) (e .credential) (e .prior) (e .seal)
+-- the prefixes of a list that stays in the bytes: at most 16, whatever its count says
+unfoldable pub membersIn : List ℕ → Listed → List BasicPrefix
+membersIn s l = times (min (l .count) 16) readPrefix s (l .start) .value
 
-abbrev pub viewEvent : TelEvent → Event
-viewEvent e = eventAs (e .kind) e
+-- what a struct of a kind stands for, over the bytes that it was read from
+abbrev pub eventAs : List ℕ → Kind → TelEvent → Event
+eventAs s Vcp e = vcp (e .said) (e .issuer) (e .toad .0) (viewConfigs (e .configs)) (membersIn s (e .backers))
+eventAs s Vrt e = vrt (e .said) (e .registry) (e .prior) (e .sn) (e .toad .0) (membersIn s (e .backers)) (membersIn s (e .additions))
+eventAs s Iss e = iss (e .said) (e .credential) (e .registry)
+eventAs s Rev e = rev (e .said) (e .credential) (e .registry) (e .prior)
+eventAs s Bis e = bis (e .said) (e .credential) (e .registry) (e .seal)
+eventAs s Brv e = brv (e .said) (e .credential) (e .prior) (e .seal)
+
+abbrev pub viewEvent : List ℕ → TelEvent → Event
+viewEvent s e = eventAs s (e .kind) e

@@ -3,7 +3,7 @@ use crate::config::Configs;
 use cesr::number::Sn;
 use cesr::primitive::Matter;
 use cesr::primitive::Said;
-use events::member_set::Members;
+use codec_cursor::cursor::Cursor;
 use events::seal::Seal;
 use events_toad::toad::Toad;
 ghost use mathlib.Core.Path.{_≡_};
@@ -18,7 +18,13 @@ pub enum Kind {
     Brv,
 }
 
-// An event of any kind, flat, since an enum can't hold arrays: a field that the kind has no use for is blank.
+// A list of prefixes that stays in the bytes: how many there are, and where the first stands.
+pub struct Listed {
+    pub count: usize,
+    pub start: Cursor,
+}
+
+// An event of any kind, flat: a field that the kind has no use for is blank. Its lists stay in the bytes, since they would be copied with the event at every call.
 pub struct TelEvent {
     pub kind: Kind,
     pub said: Said,
@@ -32,8 +38,8 @@ pub struct TelEvent {
     pub toad: Toad,
     pub configs: Configs,
     // A vcp's backers, or a vrt's cuts.
-    pub backers: Members,
-    pub additions: Members,
+    pub backers: Listed,
+    pub additions: Listed,
     // The seal that a bis or brv carries itself.
     pub seal: Seal,
 }

@@ -14,7 +14,7 @@ use Rattle.ledger_step.specs.Steps.{eventRequest, decodedRequest, requestOf}
 use Rattle.ledger_step.specs.Steps.Request.{nothing}
 
 module _ (s : List ℕ) (r : DecodedAttempt) (e : viewDecoded s r ≡ decodeOf s) where
-  pub request-decoded : r .ok ≡ true → requestOf s ≡ eventRequest (viewEvent (r .attempt .event)) (viewAttempt s (r .attempt))
+  pub request-decoded : r .ok ≡ true → requestOf s ≡ eventRequest (viewEvent s (r .attempt .event)) (viewAttempt s (r .attempt))
   unfolding requestOf
   request-decoded ok =
       ap decodedRequest (sym e) ∙ ap (λ b. decodedRequest (cond b (decoded (viewAttempt s (r .attempt))) malformed)) ok

@@ -8,7 +8,9 @@ use events_tel::tel::Kind;
 use events_tel::tel::TelEvent;
 use registry_error::error::RegistryRejection;
 use registry_wire::attempt::Attempt;
+ghost use Prim.Native.Nat.{ℕ};
 ghost use mathlib.Core.Path.{_≡_};
+ghost use mathlib.Core.List.{List};
 ghost use Rattle.events_tel.specs.TelEvents.{viewEvent};
 ghost use Rattle.registry_wire.specs.Attempts.{Message};
 ghost use Rattle.registry_laws.specs.Pairs.{pairUnder, pairIn};
@@ -73,7 +75,7 @@ fn about(kind: u8, registry: Said, credential: Said) -> Named
 }
 
 fn named_event(e: TelEvent) -> Named
-    ensures { λ r. ⌜ ((m : Message) → r ≡ namedOf (eventRequest (viewEvent e) m)) ⌝ }
+    ensures { λ r. ⌜ ((s : List ℕ) (m : Message) → r ≡ namedOf (eventRequest (viewEvent s e) m)) ⌝ }
 {
     let none = Said(Matter::none());
     let seal = e.seal;

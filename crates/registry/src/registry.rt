@@ -1,4 +1,5 @@
 // The rotations of a registry (docs/RULES.md, "Orders", "Next states").
+use codec::section::members_in;
 use events::member_set::MemberSet;
 use events::member_set::Members;
 use events_tel::tel::Kind;
@@ -21,6 +22,7 @@ ghost use Prim.Native.Nat.{_≤_};
 ghost use mathlib.Core.Path.{_≡_};
 ghost use mathlib.Core.Bool.{true, false, cond};
 ghost use Rattle.events.specs.Members.{view};
+ghost use Rattle.events_tel.specs.TelEvents.{membersIn};
 ghost use Rattle.events_tel.specs.declared.tel.Kind.the-variants.{Vrt};
 ghost use Rattle.registry_state.specs.States.{viewRegistry, wellRegistry};
 ghost use Rattle.registry_wire.specs.Attempts.{viewAttempt};
@@ -39,12 +41,12 @@ struct Rotation {
 }
 
 fn vrt_backers(current: Members, a: Attempt, s: &[u8]) -> Rotation
-    ensures answer { λ r. ⌜ r .answer ≡ vrtBackers (view current) (a .event .toad .0) (view (a .event .backers)) (view (a .event .additions)) (signaturesIn (now (s .entry)) (a .signatures)) ⌝ }
-    ensures list { λ r. ⌜ (accepts (r .answer) ≡ true → view (r .backers) ≡ updatedMembers (view current) (view (a .event .backers)) (view (a .event .additions))) ⌝ }
+    ensures answer { λ r. ⌜ r .answer ≡ vrtBackers (view current) (a .event .toad .0) (membersIn (now (s .entry)) (a .event .backers)) (membersIn (now (s .entry)) (a .event .additions)) (signaturesIn (now (s .entry)) (a .signatures)) ⌝ }
+    ensures list { λ r. ⌜ (accepts (r .answer) ≡ true → view (r .backers) ≡ updatedMembers (view current) (membersIn (now (s .entry)) (a .event .backers)) (membersIn (now (s .entry)) (a .event .additions))) ⌝ }
     ensures count { λ r. ⌜ r .backers .count ≤ 16 ⌝ }
 {
-    let cuts = a.event.backers;
-    let additions = a.event.additions;
+    let cuts = members_in(s, a.event.backers);
+    let additions = members_in(s, a.event.additions);
     let toad = a.event.toad;
     let deltas = backer_set(MemberSet::check_deltas(cuts, additions));
     let members = backer_set(MemberSet::check_current(current, cuts, additions));
@@ -60,8 +62,8 @@ fn vrt_backers(current: Members, a: Attempt, s: &[u8]) -> Rotation
 
 // A vrt's checks behind its kind; backers is what the last five of them answer.
 fn vrt_answer(g: RegistryState, a: Attempt, s: &[u8], backers: Answer) -> Answer
-    requires { ⌜ Anchored (now s) a × (backers ≡ vrtBackers (view (g .backers)) (a .event .toad .0) (view (a .event .backers)) (view (a .event .additions)) (signaturesIn (now s) (a .signatures))) ⌝ }
-    ensures { λ r. ⌜ r ≡ vrtAnswer (viewRegistry g) (a .event .said) (a .event .registry) (a .event .prior) (a .event .sn) (a .event .toad .0) (view (a .event .backers)) (view (a .event .additions)) (viewAttempt (now (s .entry)) a) ⌝ }
+    requires { ⌜ Anchored (now s) a × (backers ≡ vrtBackers (view (g .backers)) (a .event .toad .0) (membersIn (now s) (a .event .backers)) (membersIn (now s) (a .event .additions)) (signaturesIn (now s) (a .signatures))) ⌝ }
+    ensures { λ r. ⌜ r ≡ vrtAnswer (viewRegistry g) (a .event .said) (a .event .registry) (a .event .prior) (a .event .sn) (a .event .toad .0) (membersIn (now (s .entry)) (a .event .backers)) (membersIn (now (s .entry)) (a .event .additions)) (viewAttempt (now (s .entry)) a) ⌝ }
 {
     let sn = a.event.sn;
     let routed = accept_if(

@@ -18,7 +18,7 @@ use Rattle.cesr.specs.declared.number.Sn.{Sn}
 use Rattle.cesr.specs.declared.primitive.Matter.{Matter}
 use Rattle.cesr.specs.declared.primitive.Said.{Said}
 use Rattle.codec.specs.Layout.{joined, all, goodEvent, goodIdentifier}
-use Rattle.registry_wire.specs.Attempts.{Anchor, Decoded, anchorBytes, goodAnchors, goodSource, goodEvidence, goodMessage, chosenAnchors, anchorsIn, sourcesIn, evidenceAs, evidenceIn, viewAttempt, viewDecoded, decodeOf, partOf, Holds}
+use Rattle.registry_wire.specs.Attempts.{Anchor, Decoded, anchorBytes, goodAnchors, goodSource, goodEvidence, goodMessage, chosenAnchors, anchorsIn, sourcesIn, evidenceOf, evidenceAs, evidenceIn, viewAttempt, viewDecoded, decodeOf, partOf, Holds}
 use Rattle.registry_seals.specs.SignatureSections.{goodSignature}
 use Rattle.registry_seals.specs.SealSections.{chosen}
 use Rattle.registry_wire.specs.Attempts.Evidence.{issuer}
@@ -53,7 +53,7 @@ decoded-good s r b e ok =
     decodes s (viewAttempt s (r .attempt)) b .0 h .1
 
 good-issuer : (s : List ℕ) (n : ℕ) (a : Attempt) → n ≡ 1 → goodEvidence (evidenceAs s n (a .issuer) (a .carried) (a .management)) ≡ true → goodAnchors (anchorsIn s (a .carried)) ≡ true
-unfolding evidenceAs
+unfolding evidenceOf
 good-issuer s n a e g = and-right (goodIdentifier (a .issuer)) (goodAnchors (anchorsIn s (a .carried))) (rw e at g)
 
 pub anchored-parts : (s : List ℕ) (a : Attempt) → goodMessage (viewAttempt s a) ≡ true → Holds s (a .anchor) → Holds s (a .carried) → Anchored s a
@@ -99,13 +99,13 @@ used-in s a i id sn said x b k e =
 
 module _ (s : List ℕ) (a : Attempt) (i : Matter) (id : Said) (sn : Sn) (said : Said) (b : Bytes s) (k : Anchored s a) where
   other-in : (t u : Bool) → eqb (a .evidence) 1 ≡ false → eqb (a .evidence) 3 ≡ t → eqb (a .evidence) 2 ≡ u → authenticateIn i id sn said (evidenceIn s a) (sourcesIn a) (chosen (partOf s (a .carried)) (partOf s (a .anchor))) ≡ authenticateIssuer i id sn said (viewAttempt s a)
-  unfolding authenticateIn authenticateIssuer firstOf evidenceAs
+  unfolding authenticateIn authenticateIssuer firstOf evidenceOf
   other-in true u e f h = rw (e, f)
   other-in false true e f h = rw (e, f, h)
   other-in false false e f h = rw (e, f, h)
 
   by-kind : (t : Bool) → eqb (a .evidence) 1 ≡ t → authenticateIn i id sn said (evidenceIn s a) (sourcesIn a) (chosen (partOf s (a .carried)) (partOf s (a .anchor))) ≡ authenticateIssuer i id sn said (viewAttempt s a)
-  unfolding authenticateIn authenticateIssuer firstOf evidenceAs
+  unfolding authenticateIn authenticateIssuer firstOf evidenceOf
   by-kind true e = rw (e, used-in s a i id sn said (sourcesIn a) b k (eqb-true (a .evidence) 1 e))
   by-kind false e = other-in (eqb (a .evidence) 3) (eqb (a .evidence) 2) e refl refl
 

@@ -1,5 +1,6 @@
 -- Evidence by its byte.
 --     no-issuer       another byte than 1 names no issuer
+--     any-state       with another byte than 3 no state is looked at
 --     own-authority   another byte than 3 leaves the registry its own authority
 use Prim.Native.Nat.{ℕ}
 use mathlib.Core.Path.{_≡_, refl}
@@ -9,26 +10,29 @@ use borrow.Author.Tests.{ne-eqb}
 use lib.Dec.{eqb}
 use Rattle.cesr.specs.declared.primitive.Matter.{Matter}
 use Rattle.registry_state.specs.States.{Registry}
-use Rattle.registry_state.specs.declared.state.RegistryState.{RegistryState}
-use Rattle.registry_wire.specs.Attempts.{evidenceAs}
+use Rattle.registry_wire.specs.Attempts.{evidenceOf}
 use Rattle.registry_wire.specs.declared.attempt.Part.{Part}
 use Rattle.registry_authentication.specs.Issuers.{namesIssuer}
 use Rattle.registry_authentication.specs.Backers.{authority}
 
-no-issuer-by : (b : List ℕ) (n : ℕ) (p : Matter) (c : Part) (g : RegistryState) (i : Matter) (t u : Bool) → eqb n 1 ≡ false → eqb n 3 ≡ t → eqb n 2 ≡ u → false ≡ namesIssuer (evidenceAs b n p c g) i
-unfolding evidenceAs
+no-issuer-by : (b : List ℕ) (n : ℕ) (p : Matter) (c : Part) (g : Registry) (i : Matter) (t u : Bool) → eqb n 1 ≡ false → eqb n 3 ≡ t → eqb n 2 ≡ u → false ≡ namesIssuer (evidenceOf b n p c g) i
+unfolding evidenceOf
 no-issuer-by b n p c g i true u e f h = rw (e, f)
 no-issuer-by b n p c g i false true e f h = rw (e, f, h)
 no-issuer-by b n p c g i false false e f h = rw (e, f, h)
 
-pub no-issuer : (b : List ℕ) (n : ℕ) (p : Matter) (c : Part) (g : RegistryState) (i : Matter) → (n ≡ 1 → ⊥) → false ≡ namesIssuer (evidenceAs b n p c g) i
+pub no-issuer : (b : List ℕ) (n : ℕ) (p : Matter) (c : Part) (g : Registry) (i : Matter) → (n ≡ 1 → ⊥) → false ≡ namesIssuer (evidenceOf b n p c g) i
 no-issuer b n p c g i ne = no-issuer-by b n p c g i (eqb n 3) (eqb n 2) (ne-eqb n 1 ne) refl refl
 
-own-authority-by : (b : List ℕ) (n : ℕ) (p : Matter) (c : Part) (h : RegistryState) (g : Registry) (t u : Bool) → eqb n 1 ≡ t → eqb n 3 ≡ false → eqb n 2 ≡ u → g ≡ authority g (evidenceAs b n p c h)
-unfolding evidenceAs
+own-authority-by : (b : List ℕ) (n : ℕ) (p : Matter) (c : Part) (h : Registry) (g : Registry) (t u : Bool) → eqb n 1 ≡ t → eqb n 3 ≡ false → eqb n 2 ≡ u → g ≡ authority g (evidenceOf b n p c h)
+unfolding evidenceOf
 own-authority-by b n p c h g true u e f k = rw e
 own-authority-by b n p c h g false true e f k = rw (e, f, k)
 own-authority-by b n p c h g false false e f k = rw (e, f, k)
 
-pub own-authority : (b : List ℕ) (n : ℕ) (p : Matter) (c : Part) (h : RegistryState) (g : Registry) → (n ≡ 3 → ⊥) → g ≡ authority g (evidenceAs b n p c h)
+pub own-authority : (b : List ℕ) (n : ℕ) (p : Matter) (c : Part) (h : Registry) (g : Registry) → (n ≡ 3 → ⊥) → g ≡ authority g (evidenceOf b n p c h)
 own-authority b n p c h g ne = own-authority-by b n p c h g (eqb n 1) (eqb n 2) refl (ne-eqb n 3 ne) refl
+
+pub any-state : (b : List ℕ) (n : ℕ) (p : Matter) (c : Part) (g h : Registry) → (n ≡ 3 → ⊥) → evidenceOf b n p c g ≡ evidenceOf b n p c h
+unfolding evidenceOf
+any-state b n p c g h ne = rw (ne-eqb n 3 ne)

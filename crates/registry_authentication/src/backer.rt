@@ -1,6 +1,7 @@
 // The authority of a bis or brv, and its receipts (docs/RULES.md, "Evidence", "Receipts").
 use cesr::number::Sn;
 use cesr::primitive::Said;
+use codec_cursor::cursor::Cursor;
 use events::member_set::MemberSet;
 use events::member_set::Members;
 use events::seal::Seal;
@@ -20,7 +21,7 @@ ghost use lib.ListN.{length};
 ghost use Rattle.cesr.specs.declared.primitive.Matter.{Matter};
 ghost use Rattle.events.specs.Members.{view};
 ghost use Rattle.registry_state.specs.States.{viewRegistry};
-ghost use Rattle.registry_wire.specs.Attempts.{evidenceAs};
+ghost use Rattle.registry_wire.specs.Attempts.{evidenceOf, evidenceAs};
 ghost use Rattle.registry_seals.specs.SignatureSections.{signaturesIn};
 ghost use Rattle.registry_wire.specs.declared.attempt.Part.{Part};
 ghost use Rattle.registry_authentication.specs.Backers.{isBackerless, sameRegistry, standsAt, resolvedBy, namesRegistry, resolved, authority, enoughReceipts, backedBy, authenticateBacker};
@@ -54,7 +55,7 @@ pub fn resolved_by(
     evidence: u8,
     management: RegistryState,
 ) -> Answer
-    ensures { λ r. ⌜ ((b : List ℕ) (p : Matter) (c : Part) → r ≡ resolvedBy (viewRegistry g) s d (evidenceAs b evidence p c management)) ⌝ }
+    ensures { λ r. ⌜ ((b : List ℕ) (p : Matter) (c : Part) → r ≡ resolvedBy (viewRegistry g) s d (evidenceOf b evidence p c (viewRegistry management))) ⌝ }
 {
     if evidence == 1 {
         return Answer::Rejected(RegistryRejection::InconsistentIssuer);
@@ -88,7 +89,7 @@ pub fn names_registry(seal: Seal, id: Said) -> bool
 
 // Whether the seal is an event seal that names the registry, and the evidence has the state that it names.
 pub fn resolved(g: RegistryState, seal: Seal, evidence: u8, management: RegistryState) -> Answer
-    ensures { λ r. ⌜ ((b : List ℕ) (p : Matter) (c : Part) → r ≡ resolved (viewRegistry g) seal (evidenceAs b evidence p c management)) ⌝ }
+    ensures { λ r. ⌜ ((b : List ℕ) (p : Matter) (c : Part) → r ≡ resolved (viewRegistry g) seal (evidenceOf b evidence p c (viewRegistry management))) ⌝ }
 {
     match seal {
         Seal::Digest => Answer::Rejected(RegistryRejection::InconsistentManagement),
@@ -110,7 +111,7 @@ pub fn resolved(g: RegistryState, seal: Seal, evidence: u8, management: Registry
 
 // The state whose backers and toad are used.
 pub fn authority(g: RegistryState, evidence: u8, management: RegistryState) -> RegistryState
-    ensures { λ r. ⌜ ((b : List ℕ) (p : Matter) (c : Part) → viewRegistry r ≡ authority (viewRegistry g) (evidenceAs b evidence p c management)) ⌝ }
+    ensures { λ r. ⌜ ((b : List ℕ) (p : Matter) (c : Part) → viewRegistry r ≡ authority (viewRegistry g) (evidenceOf b evidence p c (viewRegistry management))) ⌝ }
 {
     if evidence == 3 {
         return management;
@@ -149,8 +150,8 @@ pub fn backed_by(s: &[u8], signatures: Counted, g: RegistryState) -> Answer
     )
 }
 
-// The authority that the event's seal and the evidence name, and what it must have signed.
-pub fn authenticate_backer(
+// The authority that the event's seal and the evidence name, and what it must have signed; where the evidence is BackerAt, the state that it holds.
+fn judged(
     s: &[u8],
     signatures: Counted,
     g: RegistryState,
@@ -158,9 +159,27 @@ pub fn authenticate_backer(
     evidence: u8,
     management: RegistryState,
 ) -> Answer
-    ensures { λ r. ⌜ ((p : Matter) (c : Part) → r ≡ authenticateBacker (viewRegistry g) seal (evidenceAs (now (s .entry)) evidence p c management) (signaturesIn (now (s .entry)) signatures)) ⌝ }
+    ensures { λ r. ⌜ ((p : Matter) (c : Part) → r ≡ authenticateBacker (viewRegistry g) seal (evidenceOf (now (s .entry)) evidence p c (viewRegistry management)) (signaturesIn (now (s .entry)) signatures)) ⌝ }
 {
     let found = resolved(g, seal, evidence, management);
     let backed = backed_by(s, signatures, authority(g, evidence, management));
     or_else(found, or_else(backed, Answer::Accepted))
+}
+
+// The same by the place of BackerAt's state in the bytes, which is read where it is used.
+pub fn authenticate_backer(
+    s: &[u8],
+    signatures: Counted,
+    g: RegistryState,
+    seal: Seal,
+    evidence: u8,
+    management: Cursor,
+) -> Answer
+    ensures { λ r. ⌜ ((p : Matter) (c : Part) → r ≡ authenticateBacker (viewRegistry g) seal (evidenceAs (now (s .entry)) evidence p c management) (signaturesIn (now (s .entry)) signatures)) ⌝ }
+{
+    if evidence == 3 {
+        let held = RegistryState::read(management, s);
+        return judged(s, signatures, g, seal, evidence, held.value);
+    }
+    judged(s, signatures, g, seal, evidence, g)
 }

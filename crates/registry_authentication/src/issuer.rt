@@ -17,7 +17,7 @@ ghost use mathlib.Core.Path.{_≡_};
 ghost use mathlib.Core.List.{List};
 ghost use Rattle.cesr.specs.declared.primitive.Matter.{Matter as MatterValue};
 ghost use Rattle.registry_state.specs.States.{optional};
-ghost use Rattle.registry_state.specs.declared.state.RegistryState.{RegistryState};
+ghost use Rattle.codec_cursor.specs.declared.cursor.Cursor.{Cursor};
 ghost use Rattle.registry_wire.specs.Attempts.{evidenceAs, sourcesIn, evidenceIn, partOf};
 ghost use Rattle.registry_seals.specs.SealSections.{chosen as chosenEvent};
 ghost use Rattle.registry_wire.specs.declared.attempt.Part.{Part as PartValue};
@@ -25,7 +25,7 @@ ghost use Rattle.registry_authentication.specs.Issuers.{issuerKind, name
 
 // Whether the evidence that is due, Issuer, is there: by its byte, whatever it holds.
 pub fn issuer_kind(evidence: u8) -> Answer
-    ensures { λ r. ⌜ ((b : List ℕ) (p : MatterValue) (c : PartValue) (g : RegistryState) → r ≡ issuerKind (evidenceAs b evidence p c g)) ⌝ }
+    ensures { λ r. ⌜ ((b : List ℕ) (p : MatterValue) (c : PartValue) (g : Cursor) → r ≡ issuerKind (evidenceAs b evidence p c g)) ⌝ }
 {
     if evidence == 1 {
         return Answer::Accepted;
@@ -41,7 +41,7 @@ pub fn issuer_kind(evidence: u8) -> Answer
 
 // Whether it is Issuer and its prefix this one.
 pub fn names_issuer(evidence: u8, prefix: Matter, issuer: Matter) -> bool
-    ensures { λ r. ⌜ ((b : List ℕ) (c : PartValue) (g : RegistryState) → r ≡ namesIssuer (evidenceAs b evidence prefix c g) issuer) ⌝ }
+    ensures { λ r. ⌜ ((b : List ℕ) (c : PartValue) (g : Cursor) → r ≡ namesIssuer (evidenceAs b evidence prefix c g) issuer) ⌝ }
 {
     if evidence != 1 {
         return false;

@@ -23,13 +23,13 @@ use Rattle.registry_error.specs.declared.error.RegistryRejection.the-variants.{
 use Rattle.registry_credential_state.specs.CredentialFolds.{ingestAnswer, saidOf, revoked, ingestMessage, ingestDecoded, ingestOf}
 
 -- every kind has its digest in the same field
-pub event-said : (k : Kind) (e : TelEvent) → saidOf (eventAs k e) ≡ e .said
-event-said Vcp e = refl
-event-said Vrt e = refl
-event-said Iss e = refl
-event-said Rev e = refl
-event-said Bis e = refl
-event-said Brv e = refl
+pub event-said : (s : List ℕ) (k : Kind) (e : TelEvent) → saidOf (eventAs s k e) ≡ e .said
+event-said s Vcp e = refl
+event-said s Vrt e = refl
+event-said s Iss e = refl
+event-said s Rev e = refl
+event-said s Bis e = refl
+event-said s Brv e = refl
 
 pub ingest-kept : (g : Registry) (w : CredentialState) (m : Message) (x : Answer) (v : CredentialState) → x ≡ ingestAnswer g w m → v ≡ cond (accepts x) (revoked w (m .event)) w → record { answer = x; state = v } ≡ ingestMessage g w m
 unfolding ingestMessage

@@ -87,7 +87,7 @@ fn brv_answer(g: RegistryState, w: CredentialState, a: Attempt, s: &[u8]) -> Ans
 
 fn ingest_event(g: RegistryState, w: CredentialState, a: Attempt, s: &[u8]) -> Answer
     requires { ⌜ Anchored (now s) a ⌝ }
-    ensures { λ r. ⌜ r ≡ ingestEvent (viewRegistry g) w (viewEvent (a .event)) (viewAttempt (now (s .entry)) a) ⌝ }
+    ensures { λ r. ⌜ r ≡ ingestEvent (viewRegistry g) w (viewEvent (now (s .entry)) (a .event)) (viewAttempt (now (s .entry)) a) ⌝ }
 {
     let e = a.event;
     let kind = e.kind;

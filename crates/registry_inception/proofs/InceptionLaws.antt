@@ -33,19 +33,19 @@ unfolding goodMessage
 good-event m g =
     and-left (goodEvent (m .event)) ((leb (length (m .source)) 1 && all goodSource (m .source)) && (goodAnchors (m .anchor) && ((leb (length (m .signatures)) 64 && all goodSignature (m .signatures)) && goodEvidence (m .evidence)))) g
 
-incept-kind-by : (k : Kind) (e : TelEvent) (m : Message) → accepts (inceptEvent (eventAs k e) m) ≡ true → k ≡ Vcp
-incept-kind-by Vcp e m h = refl
-incept-kind-by Vrt e m h = absurd (false≢true h)
-incept-kind-by Iss e m h = absurd (false≢true h)
-incept-kind-by Rev e m h = absurd (false≢true h)
-incept-kind-by Bis e m h = absurd (false≢true h)
-incept-kind-by Brv e m h = absurd (false≢true h)
+incept-kind-by : (s : List ℕ) (k : Kind) (e : TelEvent) (m : Message) → accepts (inceptEvent (eventAs s k e) m) ≡ true → k ≡ Vcp
+incept-kind-by s Vcp e m h = refl
+incept-kind-by s Vrt e m h = absurd (false≢true h)
+incept-kind-by s Iss e m h = absurd (false≢true h)
+incept-kind-by s Rev e m h = absurd (false≢true h)
+incept-kind-by s Bis e m h = absurd (false≢true h)
+incept-kind-by s Brv e m h = absurd (false≢true h)
 
 pub incept-kind : (s : List ℕ) (a : Attempt) → accepts (inceptAnswer (viewAttempt s a)) ≡ true → a .event .kind ≡ Vcp
 unfolding inceptAnswer
 incept-kind s a h =
     let m = viewAttempt s a in
-    incept-kind-by (a .event .kind) (a .event) m (or-second (issuerKind (m .evidence)) (inceptEvent (m .event) m) h)
+    incept-kind-by s (a .event .kind) (a .event) m (or-second (issuerKind (m .evidence)) (inceptEvent (m .event) m) h)
 
 pub incept-accepted : (m : Message) (x : Answer) (g : Registry) → x ≡ inceptAnswer m → accepts x ≡ true → g ≡ incepted (m .event) → record { answer = x; state = g } ≡ inceptMessage m
 unfolding inceptMessage

@@ -1,5 +1,6 @@
 // The inception of a registry (docs/RULES.md, "Orders", "Next states").
 use cesr::number::Sn;
+use codec::section::members_in;
 use events::member_set::MemberSet;
 use events::member_set::Members;
 use events_tel::tel::Kind;
@@ -17,12 +18,13 @@ use registry_error::error::Answer;
 use registry_error::error::RegistryRejection;
 use registry_state::state::RegistryState;
 use registry_wire::attempt::Attempt;
-ghost use Prim.Native.Nat.{_≤_};
+ghost use Prim.Native.Nat.{ℕ, _≤_};
 ghost use mathlib.Core.Path.{_≡_};
+ghost use mathlib.Core.List.{List};
 ghost use mathlib.Core.Bool.{true};
 ghost use Rattle.events_tel.specs.Configs.{viewConfigs};
 ghost use Rattle.events.specs.Members.{view};
-ghost use Rattle.events_tel.specs.TelEvents.{viewEvent};
+ghost use Rattle.events_tel.specs.TelEvents.{membersIn, viewEvent};
 ghost use Rattle.events_tel.specs.declared.tel.Kind.the-variants.{Vcp};
 ghost use Rattle.registry_state.specs.States.{viewRegistry, wellRegistry};
 ghost use Rattle.registry_wire.specs.Attempts.{viewAttempt};
@@ -46,13 +48,12 @@ pub fn threshold_fits(toad: Toad, backers: Members) -> Answer
     )
 }
 
-// A vcp's checks behind its kind.
-fn vcp_answer(a: Attempt, s: &[u8]) -> Answer
+// A vcp's checks behind its kind; the backers are those of its list.
+fn vcp_answer(a: Attempt, s: &[u8], backers: Members) -> Answer
     requires { ⌜ Anchored (now s) a ⌝ }
-    ensures { λ r. ⌜ r ≡ vcpAnswer (a .event .said) (a .event .issuer) (a .event .toad .0) (viewConfigs (a .event .configs)) (view (a .event .backers)) (viewAttempt (now (s .entry)) a) ⌝ }
+    ensures { λ r. ⌜ r ≡ vcpAnswer (a .event .said) (a .event .issuer) (a .event .toad .0) (viewConfigs (a .event .configs)) (view backers) (viewAttempt (now (s .entry)) a) ⌝ }
 {
     let issuer = a.event.issuer;
-    let backers = a.event.backers;
     let toad = a.event.toad;
     let zero = Sn { hi: 0, lo: 0 };
     let named = names_issuer(a.evidence, a.issuer, issuer);
@@ -70,14 +71,14 @@ fn vcp_answer(a: Attempt, s: &[u8]) -> Answer
     )
 }
 
-fn incept_event(a: Attempt, s: &[u8]) -> Answer
-    requires { ⌜ Anchored (now s) a ⌝ }
-    ensures { λ r. ⌜ r ≡ inceptEvent (viewEvent (a .event)) (viewAttempt (now (s .entry)) a) ⌝ }
+fn incept_event(a: Attempt, s: &[u8], backers: Members) -> Answer
+    requires { ⌜ Anchored (now s) a × (view backers ≡ membersIn (now s) (a .event .backers)) ⌝ }
+    ensures { λ r. ⌜ r ≡ inceptEvent (viewEvent (now (s .entry)) (a .event)) (viewAttempt (now (s .entry)) a) ⌝ }
 {
     let e = a.event;
     let kind = e.kind;
     match kind {
-        Kind::Vcp => vcp_answer(a, s),
+        Kind::Vcp => vcp_answer(a, s, backers),
         Kind::Vrt => Answer::Rejected(RegistryRejection::NotRegistryInception),
         Kind::Iss => Answer::Rejected(RegistryRejection::NotRegistryInception),
         Kind::Rev => Answer::Rejected(RegistryRejection::NotRegistryInception),
@@ -86,16 +87,16 @@ fn incept_event(a: Attempt, s: &[u8]) -> Answer
     }
 }
 
-// The state that a vcp leaves.
-fn incepted(e: TelEvent) -> RegistryState
-    ensures view { λ r. ⌜ (e .kind ≡ Vcp → viewRegistry r ≡ incepted (viewEvent e)) ⌝ }
+// The state that a vcp with these backers leaves.
+fn incepted(e: TelEvent, backers: Members) -> RegistryState
+    requires { ⌜ backers .count ≤ 16 ⌝ }
+    ensures view { λ r. ⌜ ((s : List ℕ) → view backers ≡ membersIn s (e .backers) → e .kind ≡ Vcp → viewRegistry r ≡ incepted (viewEvent s e)) ⌝ }
     ensures counts { λ r. ⌜ (r .configs .count ≤ 8) × (r .backers .count ≤ 16) ⌝ }
 {
     let said = e.said;
     let issuer = e.issuer;
     let toad = e.toad;
     let configs = e.configs.trimmed();
-    let backers = e.backers.trimmed();
     RegistryState {
         id: said,
         issuer,
@@ -112,9 +113,10 @@ fn incept_outcome(a: Attempt, s: &[u8]) -> RegistryOutcome
     ensures view { λ r. ⌜ viewOutcome r ≡ inceptMessage (viewAttempt (now (s .entry)) a) ⌝ }
     ensures counts { λ r. ⌜ (accepts (r .answer) ≡ true → (r .state .configs .count ≤ 8) × (r .state .backers .count ≤ 16)) ⌝ }
 {
-    let answer = or_else(issuer_kind(a.evidence), incept_event(a, s));
+    let backers = members_in(s, a.event.backers);
+    let answer = or_else(issuer_kind(a.evidence), incept_event(a, s, backers));
     if accepts(answer) {
-        let state = incepted(a.event);
+        let state = incepted(a.event, backers);
         return RegistryOutcome { answer, state };
     }
     let state = RegistryState::none();

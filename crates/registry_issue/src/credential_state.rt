@@ -15,7 +15,9 @@ use registry_error::error::RegistryRejection;
 use registry_state::state::CredentialState;
 use registry_state::state::RegistryState;
 use registry_wire::attempt::Attempt;
+ghost use Prim.Native.Nat.{ℕ};
 ghost use mathlib.Core.Path.{_≡_};
+ghost use mathlib.Core.List.{List};
 ghost use Rattle.events_tel.specs.TelEvents.{viewEvent};
 ghost use Rattle.registry_state.specs.States.{viewRegistry};
 ghost use Rattle.registry_wire.specs.Attempts.{viewAttempt};
@@ -73,7 +75,7 @@ fn bis_answer(g: RegistryState, a: Attempt, s: &[u8]) -> Answer
 
 fn incept_event(g: RegistryState, a: Attempt, s: &[u8]) -> Answer
     requires { ⌜ Anchored (now s) a ⌝ }
-    ensures { λ r. ⌜ r ≡ inceptEvent (viewRegistry g) (viewEvent (a .event)) (viewAttempt (now (s .entry)) a) ⌝ }
+    ensures { λ r. ⌜ r ≡ inceptEvent (viewRegistry g) (viewEvent (now (s .entry)) (a .event)) (viewAttempt (now (s .entry)) a) ⌝ }
 {
     let e = a.event;
     let kind = e.kind;
@@ -89,7 +91,7 @@ fn incept_event(g: RegistryState, a: Attempt, s: &[u8]) -> Answer
 
 // The state that an issue leaves: blank for another kind.
 fn issued(registry: Said, e: TelEvent) -> CredentialState
-    ensures { λ r. ⌜ r ≡ issued registry (viewEvent e) ⌝ }
+    ensures { λ r. ⌜ ((s : List ℕ) → r ≡ issued registry (viewEvent s e)) ⌝ }
 {
     let credential = e.credential;
     let head = e.said;

@@ -25,11 +25,10 @@ use Rattle.codec.proofs.Loops.{count-within}
 use Rattle.codec.proofs.Codes.{codes-after}
 use Rattle.codec.proofs.CodesList.{codes-times, codes-section}
 use Rattle.registry_state.specs.States.{readRegistry, viewRegistryRead}
-use Rattle.registry_wire.specs.Attempts.{Anchor, Decoded, anchorBytes, goodAnchor, readSource, readAnchor, readAnchors, readIssuer, readBackerAt, readEvidence, readMessage, decodeOf, anchorsIn, evidenceAs, partOf, Holds, ReadAs, passedAnchors}
+use Rattle.registry_wire.specs.Attempts.{Anchor, Decoded, anchorBytes, goodAnchor, readSource, readAnchor, readAnchors, readIssuer, readBackerAt, readEvidence, readMessage, decodeOf, anchorsIn, evidenceOf, evidenceAs, partOf, Holds, ReadAs, passedAnchors}
 use Rattle.registry_seals.specs.SignatureSections.{signatureBytes, goodSignature, readSignature, signaturesIn, passedSignatures}
 use Rattle.registry_wire.specs.Attempts.Evidence.{missing, issuer, backer}
 use Rattle.registry_wire.specs.Attempts.Decoded.{malformed, decoded}
-use Rattle.registry_state.specs.declared.state.RegistryState.{RegistryState}
 use Rattle.registry_state.specs.declared.state.RegistryRead.{RegistryRead}
 use Rattle.registry_wire.specs.declared.attempt.Source.{Source}
 use Rattle.registry_wire.specs.declared.attempt.Part.{Part}
@@ -102,8 +101,8 @@ unfolding partOf anchorsIn joined
 nothing-held s = refl
 
 module _ (s : List ℕ) (c : Cursor) where
-  pub issuer-read : Bytes s → (m : Read Matter) (a : AnchorsRead) (g : RegistryState) → m ≡ readIdentifier s c → a ≡ passedAnchors s (m .next) → ReadAs s (record { kind = 1; issuer = m .value; carried = a .value; management = g; next = a .next }) (readIssuer s c)
-  unfolding readIssuer evidenceAs passedAnchors
+  pub issuer-read : Bytes s → (m : Read Matter) (a : AnchorsRead) (g : Cursor) → m ≡ readIdentifier s c → a ≡ passedAnchors s (m .next) → ReadAs s (record { kind = 1; issuer = m .value; carried = a .value; management = g; next = a .next }) (readIssuer s c)
+  unfolding readIssuer evidenceOf passedAnchors
   issuer-read b m a g em ea =
       let n : a .next ≡ readAnchors s (m .next) .next = ap (λ (x : AnchorsRead). x .next) ea in
       record {
@@ -115,12 +114,12 @@ module _ (s : List ℕ) (c : Cursor) where
         holds = λ h. subst (λ (x : AnchorsRead). Holds s (x .value)) (sym ea) (anchors-hold s (m .next) b (rw n at h));
       }
 
-  pub state-read : (r : RegistryRead) (m : Matter) → viewRegistryRead r ≡ readRegistry s c → ReadAs s (record { kind = 3; issuer = m; carried = nothing; management = r .value; next = r .next }) (readBackerAt s c)
-  unfolding readBackerAt evidenceAs
+  pub state-read : (r : RegistryRead) (m : Matter) → viewRegistryRead r ≡ readRegistry s c → ReadAs s (record { kind = 3; issuer = m; carried = nothing; management = c; next = r .next }) (readBackerAt s c)
+  unfolding readBackerAt evidenceOf
   state-read r m e = record { next = rw (← e); value = λ h. rw (← e); holds = λ h. nothing-held s }
 
-  pub plain-read : (k : ℕ) (m : Matter) (g : RegistryState) (d : Cursor) → (k ≡ 1 → ⊥) → (k ≡ 3 → ⊥) → d ≡ c → ReadAs s (record { kind = k; issuer = m; carried = nothing; management = g; next = d }) (record { value = cond (eqb k 2) backer missing; next = c })
-  unfolding evidenceAs
+  pub plain-read : (k : ℕ) (m : Matter) (g d : Cursor) → (k ≡ 1 → ⊥) → (k ≡ 3 → ⊥) → d ≡ c → ReadAs s (record { kind = k; issuer = m; carried = nothing; management = g; next = d }) (record { value = cond (eqb k 2) backer missing; next = c })
+  unfolding evidenceOf
   plain-read k m g d h l e = record { next = e; value = λ o. rw (ne-eqb k 1 h, ne-eqb k 3 l); holds = λ o. nothing-held s }
 
 -- what follows a test that fails does not matter

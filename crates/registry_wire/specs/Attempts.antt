@@ -16,8 +16,7 @@ use Rattle.codec_cursor.specs.declared.cursor.Cursor.{Cursor}
 use Rattle.codec_cursor.specs.Readers.{Read, Reader, placed, starting, need, readByte, readNumber, readIdentifier, readSaid, mapped, both, after, countUpTo, section}
 use Rattle.codec.specs.Events.{readSeal, readEvent}
 use Rattle.codec.specs.Layout.{joined, sectionBytes, all, saidBytes, sealBytes, eventBytes, goodSaid, goodIdentifier, goodSn, goodSeal, goodEvent}
-use Rattle.registry_state.specs.States.{Registry, viewRegistry, registryBytes, goodRegistry, readRegistry}
-use Rattle.registry_state.specs.declared.state.RegistryState.{RegistryState}
+use Rattle.registry_state.specs.States.{Registry, registryBytes, goodRegistry, readRegistry}
 use Rattle.registry_seals.specs.SignatureSections.{Signature, signatureBytes, goodSignature, readSignature, signaturesIn}
 use Rattle.registry_wire.specs.declared.attempt.Source.{Source}
 use Rattle.registry_wire.specs.declared.attempt.Part.{Part}
@@ -152,11 +151,15 @@ unfoldable pub sourcesIn : Attempt → List Source
 sourcesIn a = cond (eqb (a .sources) 0) [] (a .source ∷ [])
 
 -- by the evidence's byte: of Issuer the prefix and the part that it carries, of BackerAt the state
-unfoldable pub evidenceAs : List ℕ → ℕ → Matter → Part → RegistryState → Evidence
-evidenceAs s kind prefix carried management =
+unfoldable pub evidenceOf : List ℕ → ℕ → Matter → Part → Registry → Evidence
+evidenceOf s kind prefix carried management =
     cond (eqb kind 1) (issuer prefix (anchorsIn s carried))
-    (cond (eqb kind 3) (backerAt (viewRegistry management))
+    (cond (eqb kind 3) (backerAt management)
     (cond (eqb kind 2) backer missing))
+
+-- the state stays in the bytes
+abbrev pub evidenceAs : List ℕ → ℕ → Matter → Part → Cursor → Evidence
+evidenceAs s kind prefix carried management = evidenceOf s kind prefix carried (readRegistry s management .value)
 
 abbrev pub evidenceIn : List ℕ → Attempt → Evidence
 evidenceIn s a = evidenceAs s (a .evidence) (a .issuer) (a .carried) (a .management)
@@ -164,7 +167,7 @@ evidenceIn s a = evidenceAs s (a .evidence) (a .issuer) (a .carried) (a .managem
 abbrev pub viewAttempt : List ℕ → Attempt → Message
 viewAttempt s a =
     record
-    { event = viewEvent (a .event); source = sourcesIn a; anchor = anchorsIn s (a .anchor); signatures = signaturesIn s (a .signatures); evidence = evidenceIn s a }
+    { event = viewEvent s (a .event); source = sourcesIn a; anchor = anchorsIn s (a .anchor); signatures = signaturesIn s (a .signatures); evidence = evidenceIn s a }
 
 abbrev pub viewDecoded : List ℕ → DecodedAttempt → Decoded
 viewDecoded s r = cond (r .ok) (decoded (viewAttempt s (r .attempt))) malformed

@@ -27,7 +27,7 @@ pub struct Part {
     pub to: usize,
 }
 
-// Anchoring events and signatures stay in bytes.
+// Lists of prefixes, anchoring events, signatures and the state of BackerAt stay in bytes.
 pub struct Attempt {
     pub event: TelEvent,
     // 0 or 1, and the source where it is 1.
@@ -40,8 +40,8 @@ pub struct Attempt {
     // Of Issuer, the prefix and the anchoring event that it carries.
     pub issuer: Matter,
     pub carried: Part,
-    // Of BackerAt.
-    pub management: RegistryState,
+    // Of BackerAt, where its state stands in the bytes.
+    pub management: Cursor,
 }
 
 // What the decoder answers. Where the bytes are malformed the attempt means nothing.
@@ -71,7 +71,7 @@ struct EvidenceRead {
     kind: u8,
     issuer: Matter,
     carried: Part,
-    management: RegistryState,
+    management: Cursor,
     next: Cursor,
 }
 
@@ -183,7 +183,7 @@ fn read_issuer(c: Cursor, s: &[u8]) -> EvidenceRead
     let issuer = i.value;
     let carried = a.value;
     let next = a.next;
-    let management = RegistryState::none();
+    let management = Cursor::start();
     EvidenceRead {
         kind: 1,
         issuer,
@@ -198,13 +198,12 @@ fn read_backer_at(c: Cursor, s: &[u8]) -> EvidenceRead
     ensures { λ r. ⌜ ReadAs (now (s .entry)) r (readBackerAt (now (s .entry)) c) ⌝ }
 {
     let g = RegistryState::read(c, s);
-    let management = g.value;
     let next = g.next;
     EvidenceRead {
         kind: 3,
         issuer: Matter::none(),
         carried: Part { from: 0, to: 0 },
-        management,
+        management: c,
         next,
     }
 }
@@ -221,7 +220,7 @@ fn read_evidence(c: Cursor, s: &[u8]) -> EvidenceRead
         return read_backer_at(k.next, s);
     }
     let next = k.next.expect_that((kind == 0) | (kind == 2));
-    let management = RegistryState::none();
+    let management = Cursor::start();
     EvidenceRead {
         kind,
         issuer: Matter::none(),

@@ -21,8 +21,8 @@ read-toad-requires c κs = search needs
 read-configs-requires : tie.Need-read-configs-requires
 read-configs-requires c κs = search needs
 
-read-prefixes-requires : tie.Need-read-prefixes-requires
-read-prefixes-requires c κs = search needs
+pass-prefixes-requires : tie.Need-pass-prefixes-requires
+pass-prefixes-requires c κs = search needs
 
 count-requires-3 : tie.Need-count-requires-3
 count-requires-3 c κs = search needs
@@ -53,7 +53,7 @@ returns c =
       ← b10 .count2 .ensures,
       ← b9 .read-toad .ensures,
       ← b8 .read-configs .ensures,
-      ← b7 .read-prefixes .ensures,
+      ← b7 .pass-prefixes .ensures,
       ← b6 .count3 .ensures,
       ← b5 .count4 .ensures,
       b4 .blank .ensures .0,
@@ -70,7 +70,7 @@ read-vcp-spec =
     count-requires-2
     read-toad-requires
     read-configs-requires
-    read-prefixes-requires
+    pass-prefixes-requires
     count-requires-3
     count-requires-4
     blank-requires

@@ -27,11 +27,11 @@ read-toad-requires c κs = search needs
 count-requires-3 : tie.Need-count-requires-3
 count-requires-3 c κs = search needs
 
-read-prefixes-requires : tie.Need-read-prefixes-requires
-read-prefixes-requires c κs = search needs
+pass-prefixes-requires : tie.Need-pass-prefixes-requires
+pass-prefixes-requires c κs = search needs
 
-read-prefixes-requires-2 : tie.Need-read-prefixes-requires-2
-read-prefixes-requires-2 c κs = search needs
+pass-prefixes-requires-2 : tie.Need-pass-prefixes-requires-2
+pass-prefixes-requires-2 c κs = search needs
 
 count-requires-4 : tie.Need-count-requires-4
 count-requires-4 c κs = search needs
@@ -67,8 +67,8 @@ returns c =
       ← b11 .sn .ensures,
       ← b10 .read-toad .ensures,
       ← b9 .count3 .ensures,
-      ← b8 .read-prefixes .ensures,
-      ← b7 .read-prefixes2 .ensures,
+      ← b8 .pass-prefixes .ensures,
+      ← b7 .pass-prefixes2 .ensures,
       ← b6 .count4 .ensures,
       b4 .with-saids .ensures .0,
       b5 .blank .ensures .0,
@@ -90,8 +90,8 @@ read-vrt-spec =
     sn-requires
     read-toad-requires
     count-requires-3
-    read-prefixes-requires
-    read-prefixes-requires-2
+    pass-prefixes-requires
+    pass-prefixes-requires-2
     count-requires-4
     blank-requires
     with-saids-requires

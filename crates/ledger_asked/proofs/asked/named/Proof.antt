@@ -18,7 +18,7 @@ returns c =
     let b = c .before .before in
     let s = now (b .before .before .args .s) in
     let r = b .decode .result in
-    c .named-event .ensures (viewAttempt s (r .attempt)) ∙ ap namedOf (sym (request-decoded s r (b .decode .ensures .0) (c .before .if1 .taken)))
+    c .named-event .ensures s (viewAttempt s (r .attempt)) ∙ ap namedOf (sym (request-decoded s r (b .decode .ensures .0) (c .before .if1 .taken)))
 
 asks-nothing-requires : tie.Need-asks-nothing-requires
 asks-nothing-requires c κs = search needs

@@ -3,7 +3,7 @@ use mathlib.Core.Path.{_≡_, refl, sym, ap, _∙_}
 use mathlib.Core.Bool.{true}
 use Rattle.events.specs.Members.{view}
 use Rattle.events_tel.specs.declared.tel.Kind.{Kind}
-use Rattle.events_tel.specs.TelEvents.{eventAs}
+use Rattle.events_tel.specs.TelEvents.{membersIn, eventAs}
 use Rattle.registry_state.specs.States.{viewRegistry}
 use Rattle.registry_wire.specs.Attempts.{viewAttempt}
 use Rattle.registry_answer.specs.Answers.{accepts}
@@ -38,11 +38,11 @@ returns c =
     let m = viewAttempt s a in
     let g = viewRegistry (z .args .g) in
     let x = b9 .vrt-answer .result in
-    let e : x ≡ ingestEvent g (m .event) m = b9 .vrt-answer .ensures ∙ sym (ap (λ (k : Kind). ingestEvent g (eventAs k t) m) (z .pre .1)) in
-    let lists : accepts x ≡ true → view (b9 .before .vrt-backers .result .backers) ≡ updatedMembers (view (z .args .g .backers)) (view (t .backers)) (view (t .additions)) =
-    λ h. b9 .before .vrt-backers .ensures .1 .0 (rw (b9 .before .vrt-backers .ensures .0) (vrt-lists g (t .said) (t .registry) (t .prior) (t .sn) (t .toad .0) (view (t .backers)) (view (t .additions)) m (rw (b9 .vrt-answer .ensures) at h))) in
+    let e : x ≡ ingestEvent g (m .event) m = b9 .vrt-answer .ensures ∙ sym (ap (λ (k : Kind). ingestEvent g (eventAs s k t) m) (z .pre .1)) in
+    let lists : accepts x ≡ true → view (b9 .before .vrt-backers .result .backers) ≡ updatedMembers (view (z .args .g .backers)) (membersIn s (t .backers)) (membersIn s (t .additions)) =
+    λ h. b9 .before .vrt-backers .ensures .1 .0 (rw (b9 .before .vrt-backers .ensures .0) (vrt-lists g (t .said) (t .registry) (t .prior) (t .sn) (t .toad .0) (membersIn s (t .backers)) (membersIn s (t .additions)) m (rw (b9 .vrt-answer .ensures) at h))) in
     rw (c .replaced .ensures, c .before .accepts .ensures)
-    (rotate-ingested s (z .args .g) a x _ (accepts x) e refl (λ h. rw (lists h) (sym (ap (λ (k : Kind). rotated g (eventAs k t)) (z .pre .1)))) refl (b9 .before .vrt-backers .ensures .1 .1))
+    (rotate-ingested s (z .args .g) a x _ (accepts x) e refl (λ h. rw (lists h) (sym (ap (λ (k : Kind). rotated g (eventAs s k t)) (z .pre .1)))) refl (b9 .before .vrt-backers .ensures .1 .1))
 
 pub rotate-spec : {M : Type 1} → statement M
 rotate-spec =

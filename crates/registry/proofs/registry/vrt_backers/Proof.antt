@@ -13,8 +13,15 @@ use Rattle.registry_seals.specs.SignatureSections.{signaturesIn}
 use Rattle.registry_verification.specs.Updated.{updatedMembers}
 use Rattle.registry.proofs.RegistryLaws.{limit-chain, limit-list}
 use borrow.Author.Needs.{needs}
+use Rattle.events_tel.specs.TelEvents.{membersIn}
 use Rattle.registry.proofs.registry.vrt_backers.Statement.{statement}
 use Rattle.registry.proofs.registry.vrt_backers.Tie as tie
+
+members-in-requires : tie.Need-members-in-requires
+members-in-requires c κs = search needs
+
+members-in-requires-2 : tie.Need-members-in-requires-2
+members-in-requires-2 c κs = search needs
 
 check-deltas-requires : tie.Need-check-deltas-requires
 check-deltas-requires c κs = search needs
@@ -68,12 +75,15 @@ returns c =
     let z = b12 .before .before .before .before .before .before .args in
     let e = z .a .event in
     let toad = e .toad .0 in
-    let cuts = view (e .backers) in
-    let additions = view (e .additions) in
+    let cuts = membersIn (now (z .s)) (e .backers) in
+    let additions = membersIn (now (z .s)) (e .additions) in
+    let m2 = b12 .before .before .before .members-in2 .ensures .0 in
+    let m1 = b12 .before .before .before .before .members-in .ensures .0 in
     let u = updatedMembers (view (z .current)) cuts additions in
     let after = b9 .updated-members .result in
     let v = view (b6 .before .trimmed .result) in
-    let w : v ≡ cond (after .ok) u (view (z .current)) = b6 .before .trimmed .ensures .0 ∙ b9 .updated-members .ensures .1 in
+    let w : v ≡ cond (after .ok) u (view (z .current)) = rw (← m1, ← m2) (b6 .before .trimmed .ensures .0 ∙ b9 .updated-members .ensures .1) in
+    let fits = rw (m1, m2) at (b9 .updated-members .ensures .0) in
     let l = signaturesIn (now (z .s)) (z .a .signatures) in
     let deltas = backerSet (checkDeltas cuts additions) in
     let members = backerSet (checkCurrent (view (z .current)) cuts additions) in
@@ -92,9 +102,11 @@ returns c =
       b9 .before .before .check-current .ensures .0,
       b12 .backer-set .ensures,
       b12 .before .check-deltas .ensures .0,
+      m1,
+      m2,
     ) in
     let chain = limit-chain (after .ok) toad u v (view (z .current)) l w in (
-      x ∙ rw (chain, ← b9 .updated-members .ensures .0),
+      x ∙ rw (chain, ← fits),
       (
         (λ h. limit-list deltas members rest (after .ok) u v (view (z .current)) w (rw x at h)),
         b6 .before .trimmed .ensures .1,
@@ -105,6 +117,8 @@ pub vrt-backers-spec : {M : Type 1} → statement M
 vrt-backers-spec =
     tie.close
     (tie.spec
+    members-in-requires
+    members-in-requires-2
     check-deltas-requires
     backer-set-requires
     check-current-requires

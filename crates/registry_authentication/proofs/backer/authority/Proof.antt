@@ -1,10 +1,10 @@
 use Rattle.registry_authentication.proofs.EvidenceLaws.{own-authority}
-use Rattle.registry_wire.specs.Attempts.{evidenceAs}
+use Rattle.registry_wire.specs.Attempts.{evidenceOf}
 use Rattle.registry_authentication.proofs.backer.authority.Statement.{statement}
 use Rattle.registry_authentication.proofs.backer.authority.Tie as tie
 
 returns : tie.Need-returns
-unfolding evidenceAs
+unfolding evidenceOf
 returns c b p d = rw (c .if1 .taken)
 
 returns-2 : tie.Need-returns-2

@@ -1,11 +1,11 @@
 use borrow.Author.Tests.{ne-eqb}
-use Rattle.registry_wire.specs.Attempts.{evidenceAs}
+use Rattle.registry_wire.specs.Attempts.{evidenceOf}
 use borrow.Author.Needs.{needs}
 use Rattle.registry_authentication.proofs.backer.resolved_by.Statement.{statement}
 use Rattle.registry_authentication.proofs.backer.resolved_by.Tie as tie
 
 returns : tie.Need-returns
-unfolding evidenceAs
+unfolding evidenceOf
 returns c b p d = rw (c .if1 .taken)
 
 same-registry-requires : tie.Need-same-registry-requires
@@ -18,7 +18,7 @@ accept-if-requires : tie.Need-accept-if-requires
 accept-if-requires c κs = search needs
 
 returns-2 : tie.Need-returns-2
-unfolding evidenceAs
+unfolding evidenceOf
 returns-2 c b p d =
     rw (c .before .before .before .if2 .taken, c .accept-if .ensures, c .before .stands-at .ensures, c .before .before .same-registry .ensures)
 
@@ -29,11 +29,11 @@ accept-if-requires-2 : tie.Need-accept-if-requires-2
 accept-if-requires-2 c κs = search needs
 
 returns-3 : tie.Need-returns-3
-unfolding evidenceAs
+unfolding evidenceOf
 returns-3 c b p d = rw (c .before .before .if3 .taken, c .accept-if2 .ensures, c .before .stands-at2 .ensures)
 
 returns-4 : tie.Need-returns-4
-unfolding evidenceAs
+unfolding evidenceOf
 returns-4 c b p d =
     let n = c .before .before .before .args .evidence in
     rw (ne-eqb n 1 (c .before .before .if1 .left), ne-eqb n 3 (c .before .if2 .left), ne-eqb n 2 (c .if3 .left))

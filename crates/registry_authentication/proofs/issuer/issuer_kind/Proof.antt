@@ -1,22 +1,22 @@
 use borrow.Author.Tests.{ne-eqb}
-use Rattle.registry_wire.specs.Attempts.{evidenceAs}
+use Rattle.registry_wire.specs.Attempts.{evidenceOf}
 use Rattle.registry_authentication.proofs.issuer.issuer_kind.Statement.{statement}
 use Rattle.registry_authentication.proofs.issuer.issuer_kind.Tie as tie
 
 returns : tie.Need-returns
-unfolding evidenceAs
+unfolding evidenceOf
 returns c b p d g = rw (c .if1 .taken)
 
 returns-2 : tie.Need-returns-2
-unfolding evidenceAs
+unfolding evidenceOf
 returns-2 c b p d g = rw (c .if2 .taken)
 
 returns-3 : tie.Need-returns-3
-unfolding evidenceAs
+unfolding evidenceOf
 returns-3 c b p d g = rw (c .if3 .taken)
 
 returns-4 : tie.Need-returns-4
-unfolding evidenceAs
+unfolding evidenceOf
 returns-4 c b p d g =
     let n = c .before .before .before .args .evidence in
     rw (ne-eqb n 1 (c .before .before .if1 .left), ne-eqb n 3 (c .before .if2 .left), ne-eqb n 2 (c .if3 .left))

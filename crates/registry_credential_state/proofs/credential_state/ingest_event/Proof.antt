@@ -45,7 +45,7 @@ returns-3 c = rw (c .enum-told3 .given .1)
 returns-4 : tie.Need-returns-4
 returns-4 c =
     let z = c .before .before .before .before .before .args in
-    rw (c .rev-answer .ensures) (sym (ap (λ (k : Kind). ingestEvent (viewRegistry (z .g)) (z .w) (eventAs k (z .a .event)) (viewAttempt (now (z .s)) (z .a))) (c .before .enum-told4 .given .1)))
+    rw (c .rev-answer .ensures) (sym (ap (λ (k : Kind). ingestEvent (viewRegistry (z .g)) (z .w) (eventAs (now (z .s)) k (z .a .event)) (viewAttempt (now (z .s)) (z .a))) (c .before .enum-told4 .given .1)))
 
 returns-5 : tie.Need-returns-5
 returns-5 c = rw (c .enum-told5 .given .1)
@@ -53,7 +53,7 @@ returns-5 c = rw (c .enum-told5 .given .1)
 returns-6 : tie.Need-returns-6
 returns-6 c =
     let z = c .before .before .before .before .before .args in
-    rw (c .brv-answer .ensures) (sym (ap (λ (k : Kind). ingestEvent (viewRegistry (z .g)) (z .w) (eventAs k (z .a .event)) (viewAttempt (now (z .s)) (z .a))) (c .before .enum-told6 .given .1)))
+    rw (c .brv-answer .ensures) (sym (ap (λ (k : Kind). ingestEvent (viewRegistry (z .g)) (z .w) (eventAs (now (z .s)) k (z .a .event)) (viewAttempt (now (z .s)) (z .a))) (c .before .enum-told6 .given .1)))
 
 pub ingest-event-spec : {M : Type 1} → statement M
 ingest-event-spec =

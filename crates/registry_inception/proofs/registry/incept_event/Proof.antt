@@ -32,7 +32,7 @@ enum-told-6 c = search needs
 returns : tie.Need-returns
 returns c =
     let z = c .before .before .before .before .before .args in
-    rw (c .vcp-answer .ensures) (sym (ap (λ (k : Kind). inceptEvent (eventAs k (z .a .event)) (viewAttempt (now (z .s)) (z .a))) (c .before .enum-told .given .1)))
+    rw (c .vcp-answer .ensures, c .before .before .before .before .before .pre .1) (sym (ap (λ (k : Kind). inceptEvent (eventAs (now (z .s)) k (z .a .event)) (viewAttempt (now (z .s)) (z .a))) (c .before .enum-told .given .1)))
 
 returns-2 : tie.Need-returns-2
 returns-2 c = rw (c .enum-told2 .given .1)

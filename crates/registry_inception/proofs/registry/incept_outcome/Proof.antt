@@ -11,6 +11,9 @@ use borrow.Author.Needs.{needs}
 use Rattle.registry_inception.proofs.registry.incept_outcome.Statement.{statement}
 use Rattle.registry_inception.proofs.registry.incept_outcome.Tie as tie
 
+members-in-requires : tie.Need-members-in-requires
+members-in-requires c κs = search needs
+
 issuer-kind-requires : tie.Need-issuer-kind-requires
 issuer-kind-requires c κs = search needs
 
@@ -30,13 +33,14 @@ returns : tie.Need-returns
 unfolding inceptAnswer
 returns c =
     let b3 = c .before .before .before in
-    let b7 = b3 .before .before .before .before in
+    let b4 = b3 .before .before .before in
+    let b7 = b4 .before .before in
     let a = b7 .args .a in
     let s = now (b7 .args .s) in
     let e : b3 .or-else .result ≡ inceptAnswer (viewAttempt s a) = rw (b3 .or-else .ensures, b3 .before .incept-event .ensures, b3 .before .before .issuer-kind .ensures s (a .issuer) (a .carried) (a .management)) in
     let h : accepts (b3 .or-else .result) ≡ true = sym (c .before .before .accepts .ensures) ∙ c .before .if1 .taken in
     let k : a .event .kind ≡ Vcp = incept-kind s a (rw e at h) in
-    (incept-accepted (viewAttempt s a) (b3 .or-else .result) (viewRegistry (c .incepted .result)) e h (c .incepted .ensures .0 k), (λ z. c .incepted .ensures .1))
+    (incept-accepted (viewAttempt s a) (b3 .or-else .result) (viewRegistry (c .incepted .result)) e h (c .incepted .ensures .0 s (b4 .members-in .ensures .0) k), (λ z. c .incepted .ensures .1))
 
 none-requires : tie.Need-none-requires
 none-requires c κs = search needs
@@ -45,7 +49,8 @@ returns-2 : tie.Need-returns-2
 unfolding inceptAnswer
 returns-2 c =
     let b3 = c .before .before .before in
-    let b7 = b3 .before .before .before .before in
+    let b4 = b3 .before .before .before in
+    let b7 = b4 .before .before in
     let a = b7 .args .a in
     let s = now (b7 .args .s) in
     let e : b3 .or-else .result ≡ inceptAnswer (viewAttempt s a) = rw (b3 .or-else .ensures, b3 .before .incept-event .ensures, b3 .before .before .issuer-kind .ensures s (a .issuer) (a .carried) (a .management)) in
@@ -56,6 +61,7 @@ pub incept-outcome-spec : {M : Type 1} → statement M
 incept-outcome-spec =
     tie.close
     (tie.spec
+    members-in-requires
     issuer-kind-requires
     incept-event-requires
     or-else-requires

@@ -63,9 +63,9 @@ returns c =
     let b6 = b3 .before .before .before in
     let b9 = b6 .before .before .before in
     let b12 = b9 .before .before .before in
-    let z = b12 .before .before .before .before .before .before .before .before .args in
+    let z = b12 .before .before .before .before .before .before .before .args in
     let a = z .a in
-    let q = b12 .before .before .before .before .before .before .before .before .args in
+    let q = b12 .before .before .before .before .before .before .before .args in
     let y = q .a in
     rw (
       c .or-else6 .ensures,
@@ -76,7 +76,7 @@ returns c =
       b3 .before .before .or-else .ensures,
       b3 .before .before .before .enough-receipts .ensures,
       b6 .before .message-anchored .ensures,
-      message-in (now (q .s)) y (y .event .issuer) (y .event .said) snZero (y .event .said) (λ i. omega (arith, b12 .before .before .before .before .before .before .before .shared-slice-known .given i)) (b12 .before .before .before .before .before .before .before .before .pre),
+      message-in (now (q .s)) y (y .event .issuer) (y .event .said) snZero (y .event .said) (λ i. omega (arith, b12 .before .before .before .before .before .before .shared-slice-known .given i)) (b12 .before .before .before .before .before .before .before .pre),
       b6 .before .before .threshold-fits .ensures,
       b6 .before .before .before .backer-set .ensures,
       b9 .before .check-members .ensures .0,

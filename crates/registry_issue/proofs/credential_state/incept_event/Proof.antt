@@ -42,7 +42,7 @@ returns-2 c = rw (c .enum-told2 .given .1)
 returns-3 : tie.Need-returns-3
 returns-3 c =
     let z = c .before .before .before .before .before .args in
-    rw (c .iss-answer .ensures) (sym (ap (λ (k : Kind). inceptEvent (viewRegistry (z .g)) (eventAs k (z .a .event)) (viewAttempt (now (z .s)) (z .a))) (c .before .enum-told3 .given .1)))
+    rw (c .iss-answer .ensures) (sym (ap (λ (k : Kind). inceptEvent (viewRegistry (z .g)) (eventAs (now (z .s)) k (z .a .event)) (viewAttempt (now (z .s)) (z .a))) (c .before .enum-told3 .given .1)))
 
 returns-4 : tie.Need-returns-4
 returns-4 c = rw (c .enum-told4 .given .1)
@@ -50,7 +50,7 @@ returns-4 c = rw (c .enum-told4 .given .1)
 returns-5 : tie.Need-returns-5
 returns-5 c =
     let z = c .before .before .before .before .before .args in
-    rw (c .bis-answer .ensures) (sym (ap (λ (k : Kind). inceptEvent (viewRegistry (z .g)) (eventAs k (z .a .event)) (viewAttempt (now (z .s)) (z .a))) (c .before .enum-told5 .given .1)))
+    rw (c .bis-answer .ensures) (sym (ap (λ (k : Kind). inceptEvent (viewRegistry (z .g)) (eventAs (now (z .s)) k (z .a .event)) (viewAttempt (now (z .s)) (z .a))) (c .before .enum-told5 .given .1)))
 
 returns-6 : tie.Need-returns-6
 returns-6 c = rw (c .enum-told6 .given .1)

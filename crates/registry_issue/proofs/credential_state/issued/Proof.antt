@@ -33,22 +33,22 @@ none-requires-4 : tie.Need-none-requires-4
 none-requires-4 c κs = search needs
 
 returns : tie.Need-returns
-returns c = search needs
+returns c s = search needs
 
 returns-2 : tie.Need-returns-2
-returns-2 c = search needs
+returns-2 c s = search needs
 
 returns-3 : tie.Need-returns-3
-returns-3 c = rw (c .enum-told3 .given .1)
+returns-3 c s = rw (c .enum-told3 .given .1)
 
 returns-4 : tie.Need-returns-4
-returns-4 c = search needs
+returns-4 c s = search needs
 
 returns-5 : tie.Need-returns-5
-returns-5 c = rw (c .enum-told5 .given .1)
+returns-5 c s = rw (c .enum-told5 .given .1)
 
 returns-6 : tie.Need-returns-6
-returns-6 c = search needs
+returns-6 c s = search needs
 
 pub issued-spec : {M : Type 1} → statement M
 issued-spec =

@@ -10,7 +10,7 @@ none-requires : tie.Need-none-requires
 none-requires c κs = search needs
 
 returns : tie.Need-returns
-returns c = state-read _ _ _ _ (c .before .before .before .read .ensures)
+returns c = state-read _ _ _ _ (c .before .before .read .ensures)
 
 pub read-backer-at-spec : {M : Type 1} → statement M
 read-backer-at-spec = tie.close (tie.spec read-requires none-requires returns)

@@ -25,11 +25,11 @@ returns-2 c =
 expect-that-requires : tie.Need-expect-that-requires
 expect-that-requires c κs = search needs
 
+start-requires : tie.Need-start-requires
+start-requires c κs = search needs
+
 none-requires : tie.Need-none-requires
 none-requires c κs = search needs
-
-none-requires-2 : tie.Need-none-requires-2
-none-requires-2 c κs = search needs
 
 returns-3 : tie.Need-returns-3
 returns-3 c =
@@ -49,6 +49,6 @@ read-evidence-spec =
     read-backer-at-requires
     returns-2
     expect-that-requires
+    start-requires
     none-requires
-    none-requires-2
     returns-3)

@@ -10,8 +10,8 @@ identifier-requires c κs = search needs
 pass-anchors-requires : tie.Need-pass-anchors-requires
 pass-anchors-requires c κs = search needs
 
-none-requires : tie.Need-none-requires
-none-requires c κs = search needs
+start-requires : tie.Need-start-requires
+start-requires c κs = search needs
 
 returns : tie.Need-returns
 returns c =
@@ -21,4 +21,4 @@ returns c =
 
 pub read-issuer-spec : {M : Type 1} → statement M
 read-issuer-spec =
-    tie.close (tie.spec identifier-requires pass-anchors-requires none-requires returns)
+    tie.close (tie.spec identifier-requires pass-anchors-requires start-requires returns)
