@@ -22,6 +22,9 @@ if grep -qE '(cache|incremental)=trusted' "$said"; then
 fi
 tail -n 1 "$said" | grep -qE '^[0-9]+ passed, 0 failed$'
 tests/attempts.sh
+# The library that hosts link, once for all that follow.
+rt staticlib host
+export JAMFELL_LIB="$PWD/target/staticlib"
 tests/hosts.sh
 tests/tool.sh
 tests/compare.sh
