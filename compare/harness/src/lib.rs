@@ -1,0 +1,25 @@
+//! The comparison of Jamfell's library with the given Rust: README.md of the folder above says what it does.
+pub mod answer;
+#[cfg(feature = "library")]
+pub mod check;
+#[cfg(feature = "ledger")]
+pub mod check_ledger;
+pub mod damage;
+pub mod decode;
+pub mod encode;
+pub mod fault;
+pub mod fold;
+pub mod host;
+pub mod keys;
+pub mod make;
+pub mod memory;
+#[cfg(feature = "ledger")]
+pub mod orders;
+pub mod plain;
+pub mod random;
+#[cfg(feature = "library")]
+pub mod run;
+#[cfg(feature = "ledger")]
+pub mod run_ledger;
+pub mod scene;
+pub mod world;
