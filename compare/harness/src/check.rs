@@ -167,7 +167,11 @@ impl Checker {
             Fold::RegistryIncept => encode::registry(&fold::registry_incept(&attempt?, &self.keys)?, &self.keys),
             Fold::RegistryIngest => {
                 let held = registry(&case.registry)?;
-                encode::registry(&fold::registry_ingest(&held, &attempt?, &self.keys)?, &self.keys)
+                let mut next = held.clone();
+                let result = fold::registry_ingest(&mut next, &attempt?, &self.keys);
+                assert!(result.is_ok() || next == held, "the Rust refused and changed the state");
+                result?;
+                encode::registry(&next, &self.keys)
             }
             Fold::CredentialIncept => {
                 let held = registry(&case.registry)?;
@@ -176,7 +180,11 @@ impl Checker {
             Fold::CredentialIngest => {
                 let held = registry(&case.registry)?;
                 let credential = decode::credential(&case.credential, &self.keys).ok_or_else(malformed)?;
-                encode::credential(&fold::credential_ingest(&held, &credential, &attempt?, &self.keys)?)
+                let mut next = credential.clone();
+                let result = fold::credential_ingest(&held, &mut next, &attempt?, &self.keys);
+                assert!(result.is_ok() || next == credential, "the Rust refused and changed the state");
+                result?;
+                encode::credential(&next)
             }
         };
         if case.room < next.len() { Err(Answer::terminal(30)) } else { Ok(next) }

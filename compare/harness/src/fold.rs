@@ -5,7 +5,7 @@ use crate::decode::{Attempt, Evidence, Reference, StatusInput, inception};
 use crate::keys::Keys;
 use cesr::core::matter::code::DigestCode;
 use cesr::core::matter::matter::Matter;
-use cesr::core::primitives::Number;
+use cesr::core::primitives::{Number, Siger};
 use keri::{
     CredentialState, CredentialVerifier, KeyStateSnapshot, RegistryRejection, RegistryState, SignedTel, TelAnchorCoordinate, TelEvidence,
 };
@@ -35,13 +35,7 @@ pub fn key_state(prefix: &Identifier<'_>) -> KeyStateSnapshot {
 }
 
 /// The attempt as the Rust's folds take it: signed message and evidence.
-pub fn handed<'a, K: Keys, T>(
-    attempt: &'a Attempt<'a>,
-    held: Option<&RegistryState>,
-    keys: &K,
-    fold: impl FnOnce(&SignedTel<'_>, &TelEvidence<'_>) -> T,
-) -> T {
-    let signatures = keys.signatures(attempt, &governing(attempt, held));
+pub fn handed<'a, T>(attempt: &'a Attempt<'a>, signatures: Vec<Siger<'a>>, fold: impl FnOnce(&SignedTel<'_>, &TelEvidence<'_>) -> T) -> T {
     let mut signed = SignedTel::from_host_asserted_parts(&attempt.event, attempt.body, vec![]).with_backer_sigs(signatures);
     if let Some((sn, said)) = &attempt.source {
         signed = signed.with_source(TelAnchorCoordinate::new(*sn, said.clone()));
@@ -86,36 +80,52 @@ fn told(error: &RegistryRejection, attempt: &Attempt<'_>, held: Option<&Registry
 }
 
 pub fn registry_incept<K: Keys>(attempt: &Attempt<'_>, keys: &K) -> Result<RegistryState, Answer> {
-    handed(attempt, None, keys, RegistryState::incept_with_evidence).map_err(|e| told(&e, attempt, None))
+    let signatures = keys.signatures(attempt, None);
+    handed(attempt, signatures, RegistryState::incept_with_evidence).map_err(|e| told(&e, attempt, None))
 }
 
-pub fn registry_ingest<K: Keys>(held: &RegistryState, attempt: &Attempt<'_>, keys: &K) -> Result<RegistryState, Answer> {
-    let mut next = held.clone();
-    let result = handed(attempt, Some(held), keys, |signed, evidence| next.ingest_mut(signed, evidence));
-    assert!(result.is_ok() || next == *held, "the Rust refused and changed the state");
-    let answer = result.map_err(|e| told(&e, attempt, Some(held)));
-    // The Rust has no limit on the members after a rotation; 25 stands before 26 and 27.
-    if matches!(answer, Ok(()) | Err(Answer { number: 26 | 27, .. })) && governing(attempt, Some(held)).len() > MOST_BACKERS {
-        return Err(Answer::terminal(25));
+/// How many members a rotation leaves.
+fn members(attempt: &Attempt<'_>, held: &RegistryState) -> usize {
+    match &attempt.event {
+        TelEvent::RegistryRotation(vrt) => {
+            let kept = held.backers().iter().filter(|b| !vrt.backer_cuts().contains(b)).count();
+            kept + vrt.backer_additions().len()
+        }
+        _ => 0,
     }
-    answer.map(|()| next)
+}
+
+/// The Rust has no limit on the members after a rotation. Where there are more than 16, what it answers to a copy tells which checks
+/// before 25 fail; 26 and 27 stand behind it.
+pub fn registry_ingest<K: Keys>(held: &mut RegistryState, attempt: &Attempt<'_>, keys: &K) -> Result<(), Answer> {
+    let signatures = keys.signatures(attempt, Some(held));
+    if members(attempt, held) <= MOST_BACKERS {
+        return handed(attempt, signatures, |signed, evidence| held.ingest_mut(signed, evidence))
+            .map_err(|e| told(&e, attempt, Some(held)));
+    }
+    let mut copy = held.clone();
+    let result = handed(attempt, signatures, |signed, evidence| copy.ingest_mut(signed, evidence));
+    match result.map_err(|e| told(&e, attempt, Some(held))) {
+        Ok(()) | Err(Answer { number: 26 | 27, .. }) => Err(Answer::terminal(25)),
+        Err(answer) => Err(answer),
+    }
 }
 
 pub fn credential_incept<K: Keys>(registry: &RegistryState, attempt: &Attempt<'_>, keys: &K) -> Result<CredentialState, Answer> {
-    handed(attempt, Some(registry), keys, |signed, evidence| CredentialState::incept(registry, signed, evidence))
+    let signatures = keys.signatures(attempt, Some(registry));
+    handed(attempt, signatures, |signed, evidence| CredentialState::incept(registry, signed, evidence))
         .map_err(|e| told(&e, attempt, Some(registry)))
 }
 
 pub fn credential_ingest<K: Keys>(
     registry: &RegistryState,
-    held: &CredentialState,
+    held: &mut CredentialState,
     attempt: &Attempt<'_>,
     keys: &K,
-) -> Result<CredentialState, Answer> {
-    let mut next = held.clone();
-    let result = handed(attempt, Some(registry), keys, |signed, evidence| next.ingest_mut(registry, signed, evidence));
-    assert!(result.is_ok() || next == *held, "the Rust refused and changed the state");
-    result.map(|()| next).map_err(|e| told(&e, attempt, Some(registry)))
+) -> Result<(), Answer> {
+    let signatures = keys.signatures(attempt, Some(registry));
+    handed(attempt, signatures, |signed, evidence| held.ingest_mut(registry, signed, evidence))
+        .map_err(|e| told(&e, attempt, Some(registry)))
 }
 
 pub fn status(input: &StatusInput<'_>) -> Answer {

@@ -1,7 +1,9 @@
 //! Backers' keys and their signatures, real ones and, for measuring, verdicts in their place.
 use crate::decode::Attempt;
+use crate::fold::governing;
 use cesr::core::primitives::Siger;
 use cesr::sodium;
+use keri::RegistryState;
 use keri_events::BasicPrefix;
 use std::borrow::Cow;
 use std::cell::{Cell, RefCell};
@@ -15,11 +17,12 @@ pub trait Keys {
     fn public<'a>(&self, prefix: &'a Prim) -> Cow<'a, [u8]>;
     /// The prefix that such a key stands for.
     fn original(&self, prefix: &BasicPrefix<'_>) -> Prim;
-    /// Signatures over the attempt's body that have its verdicts. `backers` are those by whom the receipts will be judged.
-    fn signatures<'a>(&self, attempt: &Attempt<'a>, backers: &[BasicPrefix<'_>]) -> Vec<Siger<'a>>;
+    /// Signatures over the attempt's body that have its verdicts, by the backers by whom they will be judged: those of the attempt, or of
+    /// the registry that is held.
+    fn signatures<'a>(&self, attempt: &Attempt<'a>, held: Option<&RegistryState>) -> Vec<Siger<'a>>;
 }
 
-/// No cryptography: a prefix is itself, a signature is its verdict.
+/// No cryptography: a prefix is itself, a signature is its verdict. All signatures of an attempt differ, by their ondex.
 pub struct Verdicts;
 
 impl Keys for Verdicts {
@@ -31,8 +34,9 @@ impl Keys for Verdicts {
         letter_and(prefix.code().letter(), prefix.raw())
     }
 
-    fn signatures<'a>(&self, attempt: &Attempt<'a>, _: &[BasicPrefix<'_>]) -> Vec<Siger<'a>> {
-        attempt.signatures.iter().map(|(index, verdict)| Siger::from_parts(*index, None, Cow::Borrowed(*verdict))).collect()
+    fn signatures<'a>(&self, attempt: &Attempt<'a>, _: Option<&RegistryState>) -> Vec<Siger<'a>> {
+        let all = attempt.signatures.iter().zip(0..);
+        all.map(|((index, verdict), turn)| Siger::from_parts(*index, Some(turn), Cow::Borrowed(*verdict))).collect()
     }
 }
 
@@ -135,8 +139,8 @@ impl Keys for Real {
         self.by_public.borrow()[&letter_and(prefix.code().letter(), prefix.raw())].prefix
     }
 
-    fn signatures<'a>(&self, attempt: &Attempt<'a>, backers: &[BasicPrefix<'_>]) -> Vec<Siger<'a>> {
-        let pairs: Vec<Rc<Pair>> = backers.iter().map(|b| self.pair(&self.original(b))).collect();
+    fn signatures<'a>(&self, attempt: &Attempt<'a>, held: Option<&RegistryState>) -> Vec<Siger<'a>> {
+        let pairs: Vec<Rc<Pair>> = governing(attempt, held).iter().map(|b| self.pair(&self.original(b))).collect();
         let stranger = self.pair(&[b'B'; 33]);
         let digest = sodium::digest(attempt.body);
         let mut all = Vec::with_capacity(attempt.signatures.len());

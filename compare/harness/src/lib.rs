@@ -1,6 +1,10 @@
 //! The comparison of Jamfell's library with the given Rust: README.md of the folder above says what it does.
 pub mod answer;
 #[cfg(feature = "library")]
+pub mod bench_folds;
+#[cfg(feature = "ledger")]
+pub mod bench_ledger;
+#[cfg(feature = "library")]
 pub mod check;
 #[cfg(feature = "ledger")]
 pub mod check_ledger;
@@ -12,6 +16,7 @@ pub mod fold;
 pub mod host;
 pub mod keys;
 pub mod make;
+pub mod measure;
 pub mod memory;
 #[cfg(feature = "ledger")]
 pub mod orders;
@@ -21,5 +26,6 @@ pub mod random;
 pub mod run;
 #[cfg(feature = "ledger")]
 pub mod run_ledger;
+pub mod samples;
 pub mod scene;
 pub mod world;

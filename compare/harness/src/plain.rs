@@ -91,7 +91,7 @@ impl Ledger {
             }
             TelEvent::RegistryRotation(vrt) => {
                 let at = self.held(vrt.registry())?;
-                self.registries[at] = fold::registry_ingest(&self.registries[at], attempt, keys)?;
+                fold::registry_ingest(&mut self.registries[at], attempt, keys)?;
                 Ok(Changed::Registry(at))
             }
             TelEvent::Issue(iss) => self.issued(iss.registry_said(), iss.credential_said(), attempt, keys),
@@ -119,7 +119,7 @@ impl Ledger {
         let at = self.held(registry)?;
         let missing = || Answer::of(5, CredentialError::MissingCredentialState.disposition(), &[]);
         let row = self.row(registry, credential).ok_or_else(missing)?;
-        self.rows[row] = fold::credential_ingest(&self.registries[at], &self.rows[row], attempt, keys)?;
+        fold::credential_ingest(&self.registries[at], &mut self.rows[row], attempt, keys)?;
         Ok(Changed::Row(row))
     }
 

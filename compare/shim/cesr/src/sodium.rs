@@ -1,4 +1,3 @@
-
 //! Ed25519 by libsodium.
 use ::core::ffi::{c_int, c_uchar, c_ulonglong};
 #[link(name = "sodium")]

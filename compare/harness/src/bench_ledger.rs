@@ -1,0 +1,169 @@
+//! The ledger's calls: ours on a block that is lent, and the plain Rust ledger, which makes the same checks at every call. It looks for
+//! repeated keys by comparing rows with each other, or, in the second column, with a hash set.
+use crate::host::Block;
+use crate::keys::Verdicts;
+use crate::measure::{Table, clock, median, ns, single, times};
+use crate::plain::{Changed, Ledger};
+use crate::random::Rng;
+use crate::samples::{FULL, SMALL, Size, TYPICAL, attempt, registry};
+use crate::scene::{Credential, Registry, image};
+
+const NAMES: [&str; 7] = ["", "vcp", "vrt", "iss", "rev", "bis", "brv"];
+
+/// A ledger with half of its registries without backers, and the rest with as many as `size` has.
+struct Store {
+    registries: Vec<Registry>,
+    rows: Vec<Credential>,
+    block: Box<Block>,
+    loops: Ledger,
+    hashed: Ledger,
+    size: Size,
+}
+
+fn store(rng: &mut Rng, registries: usize, rows: usize, size: Size) -> Store {
+    let registries: Vec<Registry> = (0..registries).map(|k| registry(rng, if k % 2 == 0 { size.backers } else { 0 })).collect();
+    let row = |rng: &mut Rng, k: usize| Credential {
+        registry: registries[k % registries.len()].id,
+        credential: rng.said(),
+        sn: 0,
+        head: rng.said(),
+    };
+    let rows: Vec<Credential> = (0..rows).map(|k| row(rng, k)).collect();
+    let bytes = image(&registries, &rows);
+    let mut block = Block::zero();
+    assert_eq!(block.read_image(&bytes).number, 0);
+    let [loops, hashed] = [false, true].map(|h| Ledger::read(&bytes, &Verdicts, h).expect("a sound image"));
+    Store { registries, rows, block, loops, hashed, size }
+}
+
+impl Store {
+    /// An attempt of this kind for the last row that fits it, or a new one.
+    fn attempt(&self, rng: &mut Rng, kind: u8) -> Option<Vec<u8>> {
+        let simple = matches!(kind, 3 | 4);
+        if kind == 1 {
+            let new = registry(rng, self.size.backers);
+            let nobody = Credential { registry: new.id, credential: new.id, sn: 0, head: new.id };
+            return Some(attempt(rng, 1, &new, &nobody, self.size, false).bytes());
+        }
+        let held = self.registries.iter().rev().find(|r| r.backers.is_empty() == simple)?;
+        let new = Credential { registry: held.id, credential: rng.said(), sn: 0, head: rng.said() };
+        let row = match kind {
+            4 | 6 => self.rows.iter().rev().find(|r| r.registry == held.id)?.clone(),
+            _ => new,
+        };
+        Some(attempt(rng, kind, held, &row, self.size, false).bytes())
+    }
+}
+
+/// The plain ledger's call, timed; what it changed is put back afterwards.
+fn plain(ledger: &mut Ledger, bytes: &[u8], clock: f64) -> f64 {
+    let mut changed = Changed::Nothing;
+    let lengths = (ledger.registries.len(), ledger.rows.len());
+    let before = (ledger.registries.clone(), ledger.rows.clone());
+    let time = single(clock, || changed = ledger.apply(bytes, &Verdicts, 0).1);
+    match changed {
+        Changed::Nothing => {}
+        Changed::Registry(k) if k < lengths.0 => ledger.registries[k] = before.0[k].clone(),
+        Changed::Row(k) if k < lengths.1 => ledger.rows[k] = before.1[k].clone(),
+        _ => {}
+    }
+    ledger.registries.truncate(lengths.0);
+    ledger.rows.truncate(lengths.1);
+    time
+}
+
+fn ours(block: &mut Block, sound: &Block, bytes: &[u8], clock: f64) -> f64 {
+    let time = single(clock, || block.apply(bytes));
+    block.0.copy_from_slice(&sound.0);
+    time
+}
+
+/// Ours, with loops, with a hash set; and the number that all three answer.
+fn applied(store: &mut Store, bytes: &[u8], rounds: usize) -> ([f64; 3], u8) {
+    let clock = clock();
+    let mut block = store.block.clone();
+    let number = block.clone().apply(bytes).number;
+    for ledger in [&store.loops, &store.hashed] {
+        assert_eq!(ledger.clone().apply(bytes, &Verdicts, 0).0.number, number, "all answer the same");
+    }
+    let mut all = [vec![], vec![], vec![]];
+    for _ in 0..rounds {
+        all[0].push(ours(&mut block, &store.block, bytes, clock));
+        all[1].push(plain(&mut store.loops, bytes, clock));
+        all[2].push(plain(&mut store.hashed, bytes, clock));
+    }
+    (all.map(median), number)
+}
+
+const HEAD: [&str; 7] = ["call", "answer", "ours, ns", "Rust, ns", "ratio", "Rust with a hash set, ns", "ratio"];
+
+fn put(table: &mut Table, name: String, answer: String, [ours, loops, hashed]: [f64; 3]) {
+    table.row(vec![name, answer, ns(ours), ns(loops), times(loops, ours), ns(hashed), times(hashed, ours)]);
+}
+
+pub fn apply(rng: &mut Rng, rounds: usize) {
+    println!("### `apply`\n");
+    let mut table = Table::new(&HEAD);
+    for (word, size) in [("small", SMALL), ("typical", TYPICAL), ("full", FULL)] {
+        for (ledger, registries, rows) in [("empty", 0, 0), ("half", 8, 128), ("full", 16, 256)] {
+            let mut store = store(rng, registries, rows, size);
+            for kind in 1..=6 {
+                let Some(bytes) = store.attempt(rng, kind) else { continue };
+                let (times, number) = applied(&mut store, &bytes, rounds);
+                put(&mut table, format!("{} {word}, ledger {ledger}", NAMES[kind as usize]), number.to_string(), times);
+            }
+        }
+    }
+    table.print();
+}
+
+/// How the cost of a call grows with registries and with rows: a typical rev.
+pub fn growth(rng: &mut Rng, rounds: usize) {
+    println!("### How the cost of `apply` grows with registries and rows\n");
+    let mut table = Table::new(&HEAD);
+    let sizes = [2, 4, 8, 16].map(|r| (r, 64)).into_iter().chain([2, 16, 32, 64, 128, 192, 256].map(|r| (16, r)));
+    for (registries, rows) in sizes {
+        let mut store = store(rng, registries, rows, TYPICAL);
+        let Some(bytes) = store.attempt(rng, 4) else { continue };
+        let (times, number) = applied(&mut store, &bytes, rounds);
+        put(&mut table, format!("rev, {registries} registries, {rows} rows"), number.to_string(), times);
+    }
+    table.print();
+}
+
+/// Look-ups, and images read and written; images in GB/s too.
+pub fn images(rng: &mut Rng, rounds: usize) {
+    println!("### Look-up and image\n");
+    let head = ["call", "image, bytes", "ours, ns", "ours, GB/s", "Rust, ns", "ratio", "Rust with a hash set, ns", "Rust, GB/s", "ratio"];
+    let mut table = Table::new(&head);
+    for (word, registries, rows) in [("half", 8, 128), ("full", 16, 256)] {
+        let store = store(rng, registries, rows, FULL);
+        let bytes = image(&store.registries, &store.rows);
+        let clock = clock();
+        let key = store.rows.last().expect("rows");
+        let mut out = vec![0; bytes.len()];
+        let mut block = store.block.clone();
+        let mut all: [Vec<f64>; 9] = Default::default();
+        for _ in 0..rounds {
+            all[0].push(single(clock, || store.block.look_up(&key.registry, &key.credential)));
+            all[1].push(single(clock, || store.loops.look_up(&key.registry, &key.credential, &Verdicts)));
+            all[2].push(single(clock, || store.hashed.look_up(&key.registry, &key.credential, &Verdicts)));
+            all[3].push(single(clock, || store.block.write_image(&mut out)));
+            all[4].push(single(clock, || store.loops.image(&Verdicts)));
+            all[5].push(single(clock, || store.hashed.image(&Verdicts)));
+            all[6].push(single(clock, || block.read_image(&bytes)));
+            all[7].push(single(clock, || Ledger::read(&bytes, &Verdicts, false)));
+            all[8].push(single(clock, || Ledger::read(&bytes, &Verdicts, true)));
+        }
+        assert_eq!(out, bytes, "the image is the one that was read");
+        let t = all.map(median);
+        for (k, call) in ["look up the last row", "write the image", "read the image"].into_iter().enumerate() {
+            let [ours, loops, hashed] = [t[3 * k], t[3 * k + 1], t[3 * k + 2]];
+            let speed = |t: f64| if k == 0 { String::new() } else { format!("{:.2}", bytes.len() as f64 / t) };
+            let name = format!("{call}, ledger {word}");
+            let first = vec![name, bytes.len().to_string(), ns(ours), speed(ours), ns(loops), times(loops, ours)];
+            table.row(first.into_iter().chain([ns(hashed), speed(hashed), times(hashed, ours)]).collect());
+        }
+    }
+    table.print();
+}
