@@ -46,8 +46,8 @@ pub struct FoldCase {
 /// What was counted and found.
 #[derive(Default)]
 pub struct Tally {
-    /// For each call how often each number was answered.
-    pub seen: BTreeMap<(&'static str, u8), u64>,
+    /// For each call how often each number was answered; 24 is counted for each of its rules.
+    pub seen: BTreeMap<(&'static str, u8, u8), u64>,
     pub cases: u64,
     /// The first of them, and how many there are.
     pub differences: Vec<Difference>,
@@ -55,7 +55,45 @@ pub struct Tally {
     pub signed: u64,
 }
 
+/// All numbers that a call can answer, but 24.
+const NUMBERS: &[(&str, &[u8])] = &[
+    ("registry_incept", &[0, 1, 6, 11, 18, 19, 20, 21, 26, 27, 30]),
+    ("registry_ingest", &[0, 1, 3, 7, 10, 14, 15, 16, 17, 18, 19, 20, 21, 25, 26, 27, 30]),
+    ("credential_incept", &[0, 1, 8, 10, 12, 13, 18, 19, 20, 21, 22, 23, 26, 27, 30]),
+    ("credential_ingest", &[0, 1, 9, 10, 12, 13, 15, 16, 17, 18, 19, 20, 21, 22, 23, 26, 27, 28, 30]),
+    ("status", &[0, 1, 31, 32, 33, 34, 35, 36, 37, 38, 39]),
+    ("exact", &[0, 26]),
+    ("ample", &[0, 26]),
+    #[cfg(feature = "ledger")]
+    ("apply", &[0, 1, 2, 3, 4, 5, 10, 11, 12, 13, 14, 15, 16, 17, 18, 19, 20, 21, 22, 23, 25, 26, 27, 29]),
+    #[cfg(feature = "ledger")]
+    ("look_up", &[0, 1]),
+    #[cfg(feature = "ledger")]
+    ("write_image", &[0, 1, 30]),
+    #[cfg(feature = "ledger")]
+    ("read_image", &[0, 1]),
+    #[cfg(feature = "ledger")]
+    ("empty", &[0]),
+];
+
+/// The rules of 24 that a call can name.
+const RULES: &[(&str, &[u8])] = &[
+    ("registry_incept", &[1]),
+    ("registry_ingest", &[2, 3, 4, 5, 6]),
+    ("credential_incept", &[1]),
+    ("credential_ingest", &[1]),
+    #[cfg(feature = "ledger")]
+    ("apply", &[1, 2, 3, 4, 5, 6]),
+];
+
 impl Tally {
+    /// Answers that were never expected, though the call can give them.
+    pub fn unmet(&self) -> Vec<String> {
+        let of = |calls: &'static [(&'static str, &'static [u8])]| calls.iter().flat_map(|(call, all)| all.iter().map(move |n| (*call, *n)));
+        let numbers = of(NUMBERS).map(|(call, n)| (call, n, 0)).chain(of(RULES).map(|(call, rule)| (call, 24, rule)));
+        numbers.filter(|key| !self.seen.contains_key(key)).map(|(call, n, rule)| format!("{call} {n}.{rule}")).collect()
+    }
+
     /// Takes over what another has counted.
     pub fn join(&mut self, other: Self) {
         self.cases += other.cases;
@@ -100,7 +138,8 @@ impl Checker {
 
     pub(crate) fn count(&mut self, call: &'static str, expected: &Answer) {
         self.tally.cases += 1;
-        *self.tally.seen.entry((call, expected.number)).or_default() += 1;
+        let rule = if expected.number == 24 { expected.values[0] as u8 } else { 0 };
+        *self.tally.seen.entry((call, expected.number, rule)).or_default() += 1;
     }
 
     pub(crate) fn differs(

@@ -12,7 +12,10 @@ pub fn damage(rng: &mut Rng, bytes: &mut Vec<u8>, which: usize) {
     let at = rng.below(n);
     match which {
         0 => bytes.truncate(if rng.once_in(2) { n - 1 } else { at }),
-        1 => bytes.push(rng.below(256) as u8),
+        1 => {
+            let more = if rng.once_in(16) { 70_000 } else { 1 };
+            bytes.resize(n + more, rng.below(256) as u8);
+        }
         2 => bytes[at] ^= 1 << rng.below(8),
         3 => bytes.insert(at, rng.below(256) as u8),
         4 => drop(bytes.remove(at)),

@@ -418,6 +418,11 @@ const LAYOUTS: &[Fault] = &[
     }),
 ];
 
+/// How many of the faults that fit a kind are against other rules than a layout. They stand first.
+pub fn rules(kind: u8) -> usize {
+    [ANCHORS, STATES, RECEIPTS].into_iter().flatten().filter(|f| f.fits(kind)).count()
+}
+
 /// All faults that fit a kind.
 pub fn faults(kind: u8) -> Vec<&'static Fault> {
     [ANCHORS, STATES, RECEIPTS, LAYOUTS].into_iter().flatten().filter(|f| f.fits(kind)).collect()

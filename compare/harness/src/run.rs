@@ -1,7 +1,7 @@
 //! The cases, in batches. A batch is made from the seed and its number alone, so that a run does not depend on how many threads it has.
 use crate::check::{Checker, FoldCase};
 use crate::damage::{DAMAGES, damage};
-use crate::fault::{Fault, faults};
+use crate::fault::{faults, rules};
 use crate::make::{self, Scene};
 use crate::random::Rng;
 use crate::scene::Status;
@@ -58,34 +58,35 @@ fn damaged(rng: &mut Rng, case: &mut FoldCase) {
     }
 }
 
-/// Calls of folds with attempts of one kind: of eight, one is sound, one has one fault, one has three, one is damaged, and four have a
-/// pair of faults. The pairs are taken one after another, `turn` by `turn`.
+/// Calls of folds with attempts of one kind: of eight, one is sound, one has one fault, one has three, one is damaged, three have two
+/// faults against other rules than a layout, and one has any two. All these are taken one after another, `turn` by `turn`.
 fn folds(rng: &mut Rng, kind: u8, turn: u64, checker: &mut Checker, pairs: &mut Pairs) {
     let all = faults(kind);
-    let n = all.len();
-    let mut next = turn as usize * (BATCH / 2);
+    let (n, m) = (all.len(), rules(kind));
+    let first = turn as usize * (BATCH / 8);
     let mut base = make::scene(rng, kind);
     for k in 0..BATCH {
         if k % 16 == 0 {
             base = make::scene(rng, kind);
         }
         let mut scene = base.clone();
-        let put = |rng: &mut Rng, scene: &mut Scene, fault: &Fault| (fault.apply)(scene, rng);
-        match k % 8 {
-            0 => scene = make::scene(rng, kind),
-            1 => put(rng, &mut scene, all[(turn as usize * (BATCH / 8) + k / 8) % n]),
-            2 => (0..3).for_each(|_| {
-                let fault = all[rng.below(n)];
-                put(rng, &mut scene, fault);
-            }),
-            3 => {}
-            _ => {
-                let (i, j) = (next / n % n, next % n);
-                next += 1;
-                put(rng, &mut scene, all[i]);
-                put(rng, &mut scene, all[j]);
-                *pairs.entry((kind, i as u16, j as u16)).or_default() += 1;
+        let turn = first + k / 8;
+        let chosen: Vec<usize> = match k % 8 {
+            0 | 3 => vec![],
+            1 => vec![turn % n],
+            2 => (0..3).map(|_| rng.below(m)).collect(),
+            7 => vec![turn / n % n, turn % n],
+            part => {
+                let turn = 3 * turn + part - 4;
+                vec![turn / m % m, turn % m]
             }
+        };
+        if k % 8 == 0 {
+            scene = make::scene(rng, kind);
+        }
+        chosen.iter().for_each(|f| (all[*f].apply)(&mut scene, rng));
+        if let [i, j] = chosen[..] {
+            *pairs.entry((kind, i as u16, j as u16)).or_default() += 1;
         }
         let mut case = case(rng, &scene);
         if k % 8 == 3 {

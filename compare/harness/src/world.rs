@@ -20,7 +20,11 @@ impl World {
         let registries: Vec<Registry> = (0..registries)
             .map(|_| {
                 let backerless = rng.once_in(2);
-                make::registry(rng, backerless)
+                let mut registry = make::registry(rng, backerless);
+                if rng.once_in(30) {
+                    registry.sn = u128::MAX;
+                }
+                registry
             })
             .collect();
         let mut world = Self { registries, rows: vec![] };

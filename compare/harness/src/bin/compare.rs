@@ -88,12 +88,15 @@ mod compare {
 
     fn tell(all: &Tally, pairs: &Pairs, started: Instant) {
         let mut call = "";
-        for ((name, number), n) in &all.seen {
+        for ((name, number, rule), n) in &all.seen {
             if *name != call {
                 print!("{}{name}:", if call.is_empty() { "" } else { "\n" });
                 call = name;
             }
-            print!(" {number}×{n}");
+            match rule {
+                0 => print!(" {number}×{n}"),
+                _ => print!(" {number}.{rule}×{n}"),
+            }
         }
         println!();
         for kind in 1..=6 {
@@ -114,7 +117,12 @@ mod compare {
         for difference in &all.differences {
             print!("{}", difference.text());
         }
+        // A short run need not meet every answer.
+        let unmet = if all.cases < 500_000 { vec![] } else { all.unmet() };
+        if !unmet.is_empty() {
+            println!("answers that no case had: {}", unmet.join(", "));
+        }
         println!("{} differences", all.found);
-        exit(i32::from(all.found != 0 || all.cases == 0));
+        exit(i32::from(all.found != 0 || all.cases == 0 || !unmet.is_empty()));
     }
 }
