@@ -1,13 +1,12 @@
 //! Folds: ours over bytes, the Rust's over values that are decoded already, and the Rust's with a decoder before and an encoder behind.
 use crate::keys::{Keys, Verdicts};
 use crate::make::{Fold, Scene};
-use crate::measure::{Table, median, ns, round, times};
+use crate::measure::{Table, calls, median, ns, round, times};
 use crate::random::Rng;
 use crate::samples::{FULL, SMALL, Size, TYPICAL, scene};
 use crate::{decode, encode, fold, host};
 use keri::{CredentialState, RegistryState, SignedTel, TelEvidence};
 
-const CALLS: usize = 200;
 const NAMES: [&str; 7] = ["", "vcp", "vrt", "iss", "rev", "bis", "brv"];
 
 /// The inputs of a fold as bytes.
@@ -71,18 +70,27 @@ pub struct Times {
     pub decoded: f64,
 }
 
-/// One round of the Rust's fold over values. A fold that changes its state gets a copy each time, made before the clock starts.
-fn alone(which: Fold, held: &RegistryState, credential: &CredentialState, signed: &SignedTel<'_>, evidence: &TelEvidence<'_>) -> f64 {
-    match which {
-        Fold::RegistryIncept => round(CALLS, &mut Vec::new(), |_| RegistryState::incept_with_evidence(signed, evidence)),
-        Fold::CredentialIncept => round(CALLS, &mut Vec::new(), |_| CredentialState::incept(held, signed, evidence)),
-        Fold::RegistryIngest => {
-            let mut states = vec![held.clone(); CALLS];
-            round(CALLS, &mut Vec::new(), |k| states[k].ingest_mut(signed, evidence))
-        }
-        Fold::CredentialIngest => {
-            let mut states = vec![credential.clone(); CALLS];
-            round(CALLS, &mut Vec::new(), |k| states[k].ingest_mut(held, signed, evidence))
+/// The states that a fold of the Rust gets.
+struct Held {
+    fold: Fold,
+    registry: RegistryState,
+    credential: CredentialState,
+}
+
+impl Held {
+    /// One round of the Rust's fold over values. A fold that changes its state gets a copy each time, made before the clock starts.
+    fn alone(&self, n: usize, signed: &SignedTel<'_>, evidence: &TelEvidence<'_>) -> f64 {
+        match self.fold {
+            Fold::RegistryIncept => round(n, &mut Vec::new(), |_| RegistryState::incept_with_evidence(signed, evidence)),
+            Fold::CredentialIncept => round(n, &mut Vec::new(), |_| CredentialState::incept(&self.registry, signed, evidence)),
+            Fold::RegistryIngest => {
+                let mut states = vec![self.registry.clone(); n];
+                round(n, &mut Vec::new(), |k| states[k].ingest_mut(signed, evidence))
+            }
+            Fold::CredentialIngest => {
+                let mut states = vec![self.credential.clone(); n];
+                round(n, &mut Vec::new(), |k| states[k].ingest_mut(&self.registry, signed, evidence))
+            }
         }
     }
 }
@@ -90,18 +98,22 @@ fn alone(which: Fold, held: &RegistryState, credential: &CredentialState, signed
 pub fn measure(bytes: &Bytes, rounds: usize) -> Times {
     let keys = &Verdicts;
     let attempt = decode::attempt(&bytes.attempt, keys, 0).expect("a sound attempt");
-    let held = decode::registry(&bytes.registry, keys).expect("a sound state");
-    let credential = decode::credential(&bytes.credential, keys).expect("a sound state");
+    let held = Held {
+        fold: bytes.fold,
+        registry: decode::registry(&bytes.registry, keys).expect("a sound state"),
+        credential: decode::credential(&bytes.credential, keys).expect("a sound state"),
+    };
     let (mut buffer, mut next) = ([0; 700], Vec::with_capacity(700));
     let (mut said, mut numbers) = (Vec::new(), Vec::new());
     assert_eq!((bytes.ours(&mut buffer).number, bytes.decoded(&mut next)), (0, 0), "both accept");
     assert_eq!(&buffer[..next.len()], &next[..], "both write the same");
+    let n = calls(|| bytes.ours(&mut buffer)).min(calls(|| bytes.decoded(&mut next)));
     let (mut a, mut b, mut c) = (vec![], vec![], vec![]);
     fold::handed(&attempt, keys.signatures(&attempt, None), |signed, evidence| {
         for _ in 0..rounds {
-            a.push(round(CALLS, &mut said, |_| bytes.ours(&mut buffer)));
-            b.push(alone(bytes.fold, &held, &credential, signed, evidence));
-            c.push(round(CALLS, &mut numbers, |_| bytes.decoded(&mut next)));
+            a.push(round(n, &mut said, |_| bytes.ours(&mut buffer)));
+            b.push(held.alone(n, signed, evidence));
+            c.push(round(n, &mut numbers, |_| bytes.decoded(&mut next)));
         }
     });
     Times { ours: median(a), alone: median(b), decoded: median(c) }
@@ -142,9 +154,10 @@ pub fn decoding(rng: &mut Rng, rounds: usize) {
             assert_eq!(host::registry_incept(&bytes.attempt, &mut buffer).number, 1);
             assert!(decode::attempt(&bytes.attempt, &Verdicts, 0).is_none());
             let (mut a, mut b, mut said, mut read) = (vec![], vec![], Vec::new(), Vec::new());
+            let n = calls(|| host::registry_incept(&bytes.attempt, &mut buffer));
             for _ in 0..rounds {
-                a.push(round(CALLS, &mut said, |_| host::registry_incept(&bytes.attempt, &mut buffer)));
-                b.push(round(CALLS, &mut read, |_| decode::attempt(&bytes.attempt, &Verdicts, 0).is_none()));
+                a.push(round(n, &mut said, |_| host::registry_incept(&bytes.attempt, &mut buffer)));
+                b.push(round(n, &mut read, |_| decode::attempt(&bytes.attempt, &Verdicts, 0).is_none()));
             }
             let (ours, rust) = (median(a), median(b));
             let name = format!("{} {word}", NAMES[kind as usize]);

@@ -56,42 +56,45 @@ impl Store {
 }
 
 /// The plain ledger's call, timed; what it changed is put back afterwards.
-fn plain(ledger: &mut Ledger, bytes: &[u8], clock: f64) -> f64 {
+fn plain(ledger: &mut Ledger, before: &Ledger, bytes: &[u8], clock: f64) -> f64 {
     let mut changed = Changed::Nothing;
-    let lengths = (ledger.registries.len(), ledger.rows.len());
-    let before = (ledger.registries.clone(), ledger.rows.clone());
     let time = single(clock, || changed = ledger.apply(bytes, &Verdicts, 0).1);
     match changed {
-        Changed::Nothing => {}
-        Changed::Registry(k) if k < lengths.0 => ledger.registries[k] = before.0[k].clone(),
-        Changed::Row(k) if k < lengths.1 => ledger.rows[k] = before.1[k].clone(),
+        Changed::Registry(k) if k < before.registries.len() => ledger.registries[k] = before.registries[k].clone(),
+        Changed::Row(k) if k < before.rows.len() => ledger.rows[k] = before.rows[k].clone(),
         _ => {}
     }
-    ledger.registries.truncate(lengths.0);
-    ledger.rows.truncate(lengths.1);
+    ledger.registries.truncate(before.registries.len());
+    ledger.rows.truncate(before.rows.len());
     time
 }
 
-fn ours(block: &mut Block, sound: &Block, bytes: &[u8], clock: f64) -> f64 {
+/// The same of ours.
+fn ours(block: &mut Block, before: &Block, changed: Changed, bytes: &[u8], clock: f64) -> f64 {
     let time = single(clock, || block.apply(bytes));
-    block.0.copy_from_slice(&sound.0);
+    match changed {
+        Changed::Nothing => {}
+        Changed::Registry(k) => block.registry_mut(k).copy_from_slice(before.registry(k)),
+        Changed::Row(k) => block.row_mut(k).copy_from_slice(before.row(k)),
+    }
+    block.set_counts(before.registry_count(), before.row_count());
     time
 }
 
 /// Ours, with loops, with a hash set; and the number that all three answer.
-fn applied(store: &mut Store, bytes: &[u8], rounds: usize) -> ([f64; 3], u8) {
+fn applied(store: &Store, bytes: &[u8], rounds: usize) -> ([f64; 3], u8) {
     let clock = clock();
-    let mut block = store.block.clone();
+    let (mut block, mut loops, mut hashed) = (store.block.clone(), store.loops.clone(), store.hashed.clone());
     let number = block.clone().apply(bytes).number;
-    for ledger in [&store.loops, &store.hashed] {
-        assert_eq!(ledger.clone().apply(bytes, &Verdicts, 0).0.number, number, "all answer the same");
-    }
+    let (answer, changed) = loops.clone().apply(bytes, &Verdicts, 0);
+    assert_eq!(answer.number, number, "both answer the same");
     let mut all = [vec![], vec![], vec![]];
     for _ in 0..rounds {
-        all[0].push(ours(&mut block, &store.block, bytes, clock));
-        all[1].push(plain(&mut store.loops, bytes, clock));
-        all[2].push(plain(&mut store.hashed, bytes, clock));
+        all[0].push(ours(&mut block, &store.block, changed, bytes, clock));
+        all[1].push(plain(&mut loops, &store.loops, bytes, clock));
+        all[2].push(plain(&mut hashed, &store.hashed, bytes, clock));
     }
+    assert!(block == store.block && loops == store.loops && hashed == store.hashed, "all are as before");
     (all.map(median), number)
 }
 
@@ -106,10 +109,10 @@ pub fn apply(rng: &mut Rng, rounds: usize) {
     let mut table = Table::new(&HEAD);
     for (word, size) in [("small", SMALL), ("typical", TYPICAL), ("full", FULL)] {
         for (ledger, registries, rows) in [("empty", 0, 0), ("half", 8, 128), ("full", 16, 256)] {
-            let mut store = store(rng, registries, rows, size);
+            let store = store(rng, registries, rows, size);
             for kind in 1..=6 {
                 let Some(bytes) = store.attempt(rng, kind) else { continue };
-                let (times, number) = applied(&mut store, &bytes, rounds);
+                let (times, number) = applied(&store, &bytes, rounds);
                 put(&mut table, format!("{} {word}, ledger {ledger}", NAMES[kind as usize]), number.to_string(), times);
             }
         }
@@ -123,9 +126,9 @@ pub fn growth(rng: &mut Rng, rounds: usize) {
     let mut table = Table::new(&HEAD);
     let sizes = [2, 4, 8, 16].map(|r| (r, 64)).into_iter().chain([2, 16, 32, 64, 128, 192, 256].map(|r| (16, r)));
     for (registries, rows) in sizes {
-        let mut store = store(rng, registries, rows, TYPICAL);
+        let store = store(rng, registries, rows, TYPICAL);
         let Some(bytes) = store.attempt(rng, 4) else { continue };
-        let (times, number) = applied(&mut store, &bytes, rounds);
+        let (times, number) = applied(&store, &bytes, rounds);
         put(&mut table, format!("rev, {registries} registries, {rows} rows"), number.to_string(), times);
     }
     table.print();

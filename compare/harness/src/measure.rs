@@ -18,6 +18,12 @@ pub fn round<T>(n: usize, kept: &mut Vec<T>, mut call: impl FnMut(usize) -> T) -
     started.elapsed().as_nanos() as f64 / n as f64
 }
 
+/// How many calls make a round of some 50 µs: short enough that it is seldom interrupted, long enough for the clock.
+pub fn calls<T>(mut call: impl FnMut() -> T) -> usize {
+    let warm = round(50, &mut Vec::new(), |_| call());
+    (50_000.0 / warm.max(1.0)).clamp(4.0, 400.0) as usize
+}
+
 /// Nanoseconds for one call, with what reading the clock costs taken off.
 pub fn single<T>(clock: f64, call: impl FnOnce() -> T) -> f64 {
     let started = Instant::now();

@@ -2,7 +2,7 @@
 #[cfg(feature = "library")]
 fn main() {
     use harness::random::Rng;
-    let rounds = std::env::args().skip_while(|w| w != "--rounds").nth(1).and_then(|w| w.parse().ok()).unwrap_or(101);
+    let rounds = std::env::args().skip_while(|w| w != "--rounds").nth(1).and_then(|w| w.parse().ok()).unwrap_or(301);
     let rng = &mut Rng::new(1);
     harness::bench_folds::folds(rng, rounds);
     harness::bench_folds::decoding(rng, rounds);
