@@ -1,6 +1,6 @@
 #!/usr/bin/env bash
 # All tests: the layout of the files, then every proof from nothing, every must-fail edit and every program, then recorded runs of the
-# printed program. The last line is 'N passed, 0 failed', and it is printed only when everything passed.
+# printed program, then a short comparison with the Rust, where that is at hand. The last line is 'N passed, 0 failed', and it is printed only when everything passed.
 set -euo pipefail
 cd "$(dirname "$0")"
 # The checker unpacks some 200 MB anew for every crate and every edit. Where there is room for that in memory it is quicker than on a disk.
@@ -19,4 +19,5 @@ if grep -qE '(cache|incremental)=trusted' "$said"; then
 fi
 tail -n 1 "$said" | grep -qE '^[0-9]+ passed, 0 failed$'
 tests/attempts.sh
+tests/compare.sh
 tail -n 1 "$said"

@@ -89,7 +89,8 @@ const RULES: &[(&str, &[u8])] = &[
 impl Tally {
     /// Answers that were never expected, though the call can give them.
     pub fn unmet(&self) -> Vec<String> {
-        let of = |calls: &'static [(&'static str, &'static [u8])]| calls.iter().flat_map(|(call, all)| all.iter().map(move |n| (*call, *n)));
+        let of =
+            |calls: &'static [(&'static str, &'static [u8])]| calls.iter().flat_map(|(call, all)| all.iter().map(move |n| (*call, *n)));
         let numbers = of(NUMBERS).map(|(call, n)| (call, n, 0)).chain(of(RULES).map(|(call, rule)| (call, 24, rule)));
         numbers.filter(|key| !self.seen.contains_key(key)).map(|(call, n, rule)| format!("{call} {n}.{rule}")).collect()
     }

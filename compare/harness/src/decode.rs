@@ -191,56 +191,65 @@ impl<'a, 'k, K: Keys> Reader<'a, 'k, K> {
         let kind = self.byte()?;
         self.exactly(*[2, 3, 3, 4, 3, 3].get(usize::from(kind).checked_sub(1)?)?)?;
         let said = self.said()?;
+        match kind {
+            1 => self.inception(said),
+            2 => self.rotation(said),
+            _ => self.of_credential(kind, said),
+        }
+    }
+
+    fn inception(&mut self, said: Said<'a>) -> Option<(TelEvent<'a>, Wanted<'a>)> {
+        let issuer = self.identifier()?;
+        let [toad] = self.numbers()?;
+        let (config, backers) = (self.many(8, Self::config)?, self.many(16, Self::backer)?);
+        self.none()?;
+        self.none()?;
+        let wanted = Wanted { i: said.clone(), s: Number::new(0), d: said.clone() };
+        let nonce = Matter::from_parts(OtherCode, Cow::Borrowed(&[9; 16]));
+        let toad = Toad::from_wire(toad.try_into().ok()?);
+        Some((TelEvent::RegistryInception(RegistryInception::new_unchecked(said, issuer, config, toad, backers, nonce)), wanted))
+    }
+
+    fn rotation(&mut self, said: Said<'a>) -> Option<(TelEvent<'a>, Wanted<'a>)> {
+        let (registry, prior) = (self.said()?, self.said()?);
+        let [sn, toad] = self.numbers()?;
+        self.none()?;
+        let (cuts, additions) = (self.many(16, Self::backer)?, self.many(16, Self::backer)?);
+        self.none()?;
+        let wanted = Wanted { i: registry.clone(), s: Number::new(sn), d: said.clone() };
+        let toad = Toad::from_wire(toad.try_into().ok()?);
+        let vrt = RegistryRotation::new_unchecked(said, registry, prior, Number::new(sn), toad, cuts, additions);
+        Some((TelEvent::RegistryRotation(vrt), wanted))
+    }
+
+    fn of_credential(&mut self, kind: u8, said: Said<'a>) -> Option<(TelEvent<'a>, Wanted<'a>)> {
         let time = Cow::Borrowed("2026-11-15T00:00:00.000000+00:00");
-        let wanted = |i: &Said<'a>, s: u128| Wanted { i: i.clone(), s: Number::new(s), d: said.clone() };
-        Some(match kind {
-            1 => {
-                let issuer = self.identifier()?;
-                let [toad] = self.numbers()?;
-                let (config, backers) = (self.many(8, Self::config)?, self.many(16, Self::backer)?);
-                self.none()?;
-                self.none()?;
-                let wanted = wanted(&said, 0);
-                let nonce = Matter::from_parts(OtherCode, Cow::Borrowed(&[9; 16]));
-                let toad = Toad::from_wire(toad.try_into().ok()?);
-                (TelEvent::RegistryInception(RegistryInception::new_unchecked(said, issuer, config, toad, backers, nonce)), wanted)
-            }
-            2 => {
-                let (registry, prior) = (self.said()?, self.said()?);
-                let [sn, toad] = self.numbers()?;
-                self.none()?;
-                let (cuts, additions) = (self.many(16, Self::backer)?, self.many(16, Self::backer)?);
-                self.none()?;
-                let wanted = wanted(&registry, sn);
-                let toad = Toad::from_wire(toad.try_into().ok()?);
-                let vrt = RegistryRotation::new_unchecked(said, registry, prior, Number::new(sn), toad, cuts, additions);
-                (TelEvent::RegistryRotation(vrt), wanted)
-            }
+        let credential = self.said()?;
+        let sn = if kind % 2 == 1 { 0 } else { 1 };
+        let wanted = Wanted { i: credential.clone(), s: Number::new(sn), d: said.clone() };
+        let event = match kind {
             3 => {
-                let (credential, registry) = (self.said()?, self.said()?);
+                let registry = self.said()?;
                 self.simple()?;
-                let wanted = wanted(&credential, 0);
-                (TelEvent::Issue(Issue::new_unchecked(said, credential, registry, time)), wanted)
+                TelEvent::Issue(Issue::new_unchecked(said, credential, registry, time))
             }
             4 => {
-                let (credential, registry, prior) = (self.said()?, self.said()?, self.said()?);
+                let (registry, prior) = (self.said()?, self.said()?);
                 self.simple()?;
-                let wanted = wanted(&credential, 1);
-                (TelEvent::Revoke(Revoke::new_unchecked(said, credential, registry, prior, time)), wanted)
+                TelEvent::Revoke(Revoke::new_unchecked(said, credential, registry, prior, time))
             }
             5 => {
-                let (credential, registry) = (self.said()?, self.said()?);
-                let own = self.own(&wanted(&registry, 0))?;
-                let wanted = wanted(&credential, 0);
-                (TelEvent::BackedIssue(BackedIssue::new_unchecked(said, credential, registry, own, time)), wanted)
+                let registry = self.said()?;
+                let own = self.own(&wanted)?;
+                TelEvent::BackedIssue(BackedIssue::new_unchecked(said, credential, registry, own, time))
             }
             _ => {
-                let (credential, prior) = (self.said()?, self.said()?);
-                let own = self.own(&wanted(&credential, 0))?;
-                let wanted = wanted(&credential, 1);
-                (TelEvent::BackedRevoke(BackedRevoke::new_unchecked(said, credential, prior, own, time)), wanted)
+                let prior = self.said()?;
+                let own = self.own(&wanted)?;
+                TelEvent::BackedRevoke(BackedRevoke::new_unchecked(said, credential, prior, own, time))
             }
-        })
+        };
+        Some((event, wanted))
     }
 
     fn none(&mut self) -> Option<()> {

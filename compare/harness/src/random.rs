@@ -8,7 +8,7 @@ impl Rng {
         Self(seed)
     }
 
-    pub fn next(&mut self) -> u64 {
+    pub fn word(&mut self) -> u64 {
         self.0 = self.0.wrapping_add(0x9e37_79b9_7f4a_7c15);
         let mut z = self.0;
         z = (z ^ (z >> 30)).wrapping_mul(0xbf58_476d_1ce4_e5b9);
@@ -17,7 +17,7 @@ impl Rng {
     }
 
     pub fn below(&mut self, n: usize) -> usize {
-        (u128::from(self.next()) * n as u128 >> 64) as usize
+        ((u128::from(self.word()) * n as u128) >> 64) as usize
     }
 
     /// From `low` to `high`, both included.
@@ -52,7 +52,7 @@ impl Rng {
     fn primitive(&mut self, letters: &[u8]) -> Prim {
         let mut p = [*self.pick(letters); 33];
         for chunk in p[1..].chunks_mut(8) {
-            chunk.copy_from_slice(&self.next().to_be_bytes());
+            chunk.copy_from_slice(&self.word().to_be_bytes());
         }
         p
     }
@@ -112,8 +112,8 @@ impl Rng {
             7 => end - self.below(2) as u128,
             8 => end + 1 + self.below(2) as u128,
             9 => u128::MAX - 1 - self.below(2) as u128,
-            10 => u128::from(self.next()) << 64,
-            _ => (u128::from(self.next()) << 64 | u128::from(self.next())) >> 1,
+            10 => u128::from(self.word()) << 64,
+            _ => (u128::from(self.word()) << 64 | u128::from(self.word())) >> 1,
         }
     }
 

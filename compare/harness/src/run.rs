@@ -154,7 +154,7 @@ fn thresholds(rng: &mut Rng, checker: &mut Checker) {
         let around = |rng: &mut Rng, n: u64| n.wrapping_add(rng.below(9) as u64).wrapping_sub(4);
         let end = *rng.pick(&ends);
         let backers = match rng.below(3) {
-            0 => rng.next() >> rng.below(64),
+            0 => rng.word() >> rng.below(64),
             1 => 6_442_450_941_u64.wrapping_add(rng.below(4000) as u64).wrapping_sub(2000),
             _ => around(rng, end),
         };

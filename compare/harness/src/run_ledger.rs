@@ -14,7 +14,7 @@ use crate::world::{BREAKS, World, break_rule, plain_of};
 fn block(rng: &mut Rng, table: &Table) -> Box<Block> {
     let mut block = Block::zero();
     for chunk in block.0.chunks_mut(8) {
-        chunk.copy_from_slice(&rng.next().to_be_bytes());
+        chunk.copy_from_slice(&rng.word().to_be_bytes());
     }
     block.store(table);
     block
@@ -63,7 +63,8 @@ pub fn ledgers(rng: &mut Rng, checker: &mut Checker) {
         let ledger = plain_of(&world.table(), &checker.keys).expect("a sound ledger");
         for k in 0..32 {
             let mut held = sound.clone();
-            let mut plain = Some(ledger.clone());
+            // Repeated keys are looked for in both ways.
+            let mut plain = Some(Ledger { hashed: k % 2 == 0, ..ledger.clone() });
             if k % 4 == 3 {
                 let mut table = world.table();
                 let which = rng.below(BREAKS);
@@ -77,7 +78,7 @@ pub fn ledgers(rng: &mut Rng, checker: &mut Checker) {
                     checker.look_up(&held, plain.as_ref(), &registry, &credential);
                 }
                 1 => {
-                    let n = rng.next();
+                    let n = rng.word();
                     checker.write_image(&held, plain.as_ref(), |size| room(&mut Rng::new(n), size));
                 }
                 _ => {
@@ -151,7 +152,7 @@ pub fn images(rng: &mut Rng, checker: &mut Checker) {
 fn random_block(rng: &mut Rng) -> Box<Block> {
     let mut block = Block::zero();
     for at in (0..LEDGER).step_by(8) {
-        block.0[at..at + 8].copy_from_slice(&rng.next().to_be_bytes());
+        block.0[at..at + 8].copy_from_slice(&rng.word().to_be_bytes());
     }
     block
 }
