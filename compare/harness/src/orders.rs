@@ -153,25 +153,28 @@ fn rows(block: &Block) -> HashMap<(Prim, Prim), Credential> {
     block.table().rows.into_iter().map(|r| ((r.registry, r.credential), r)).collect()
 }
 
-/// What differs after two orders of one list, if anything does.
-fn differs(rng: &mut Rng, start: &Block, entries: &[Entry], order: &[usize]) -> Option<String> {
+/// How many attempts of a list were accepted, or what differs after two orders of it.
+fn judged(rng: &mut Rng, start: &Block, entries: &[Entry], order: &[usize]) -> Result<usize, String> {
     let usual: Vec<usize> = (0..entries.len()).collect();
     let (first, one) = run(start, entries, &usual);
     let (second, other) = run(start, entries, order);
     if let Some(k) = (0..entries.len()).find(|k| first[*k] != second[*k]) {
-        return Some(format!("place {k}: {} in one order, {} in the other", hex(&first[k]), hex(&second[k])));
+        return Err(format!("place {k}: {} in one order, {} in the other", hex(&first[k]), hex(&second[k])));
     }
     let (a, b) = (one.table(), other.table());
     if (a.registry_count, &a.registries) != (b.registry_count, &b.registries) {
-        return Some("the registries differ".to_owned());
+        return Err("the registries differ".to_owned());
     }
     if a.row_count != b.row_count || rows(&one) != rows(&other) {
-        return Some("the rows differ".to_owned());
+        return Err("the rows differ".to_owned());
     }
     let mut keys: Vec<(Prim, Prim)> = rows(&one).into_keys().take(8).collect();
     keys.extend(entries.iter().filter_map(|e| if let Some(Group::Pair(r, c)) = &e.group { Some((*r, *c)) } else { None }));
     keys.push((rng.said(), rng.said()));
-    keys.iter().find(|(r, c)| one.look_up(r, c).report != other.look_up(r, c).report).map(|_| "a look-up differs".to_owned())
+    match keys.iter().find(|(r, c)| one.look_up(r, c).report != other.look_up(r, c).report) {
+        Some(_) => Err("a look-up differs".to_owned()),
+        None => Ok(first.iter().filter(|report| report[0] == 0).count()),
+    }
 }
 
 /// The new pairs of a list, each counted once.
@@ -188,8 +191,8 @@ pub struct Found {
     pub text: String,
 }
 
-/// One list and one other order of it; one ledger in 16 breaks a reading rule.
-pub fn one(rng: &mut Rng, backer: bool) -> Result<usize, Found> {
+/// One list and one other order of it; one ledger in 16 breaks a reading rule. How many attempts there were, and how many were accepted.
+pub fn one(rng: &mut Rng, backer: bool) -> Result<(usize, usize), Found> {
     let rows = *rng.pick(&[0, 3, 10, 30, 100, 216, 240]);
     let registries = rng.between(1, 16);
     let world = World::new(rng, registries, rows);
@@ -205,9 +208,9 @@ pub fn one(rng: &mut Rng, backer: bool) -> Result<usize, Found> {
         entries.pop();
     }
     let order = reordered(rng, &entries);
-    match differs(rng, &start, &entries, &order) {
-        None => Ok(entries.len()),
-        Some(what) => {
+    match judged(rng, &start, &entries, &order) {
+        Ok(accepted) => Ok((entries.len(), accepted)),
+        Err(what) => {
             let list: Vec<String> = entries.iter().map(|e| hex(&e.bytes)).collect();
             Err(Found { text: format!("{what}\n  order {order:?}\n  ledger {}\n  attempts {}", hex(&start.0), list.join(" ")) })
         }

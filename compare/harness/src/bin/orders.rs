@@ -13,17 +13,20 @@ fn main() {
     println!("seed {seed}");
     assert!(layout_holds(), "the ledger's block has another layout");
     let mut rng = Rng::new(seed);
-    let mut attempts = 0;
+    let (mut attempts, mut accepted) = (0, 0);
     for k in 0..lists {
         match one(&mut rng, false) {
-            Ok(n) => attempts += n,
+            Ok((n, m)) => {
+                attempts += n;
+                accepted += m;
+            }
             Err(found) => {
                 println!("list {k}: {}", found.text);
                 std::process::exit(1);
             }
         }
     }
-    println!("{lists} lists of {attempts} attempts in all: no difference between two orders");
+    println!("{lists} lists of {attempts} attempts in all, {accepted} of them accepted: no difference between two orders");
     let differ = (0..lists.max(200)).filter(|_| one(&mut rng, true).is_err()).count();
     println!("with evidence 2 allowed: a difference in {differ} lists of {}", lists.max(200));
     assert!(differ > 0, "evidence 2 must make a difference");
