@@ -6,6 +6,8 @@ use crate::random::Rng;
 use crate::samples::{FULL, SMALL, Size, TYPICAL, scene};
 use crate::{decode, encode, fold, host};
 use keri::{CredentialState, RegistryState, SignedTel, TelEvidence};
+use std::hint::black_box;
+use std::time::Instant;
 
 const NAMES: [&str; 7] = ["", "vcp", "vrt", "iss", "rev", "bis", "brv"];
 
@@ -122,6 +124,22 @@ pub fn measure(bytes: &Bytes, rounds: usize) -> Times {
 fn put(table: &mut Table, name: String, t: &Times) {
     let cells = [ns(t.ours), ns(t.alone), times(t.alone, t.ours), ns(t.decoded), times(t.decoded, t.ours)];
     table.row(std::iter::once(name).chain(cells).collect());
+}
+
+/// Calls ours alone for some seconds, for a profiler: a kind and a size, as "vrt typical". Answers whether there is such a row.
+pub fn profile(rng: &mut Rng, name: &str, seconds: u64) -> bool {
+    let sizes = [("small", SMALL), ("typical", TYPICAL), ("full", FULL)];
+    let rows = sizes.into_iter().flat_map(|(word, size)| (1..=6).map(move |kind| (format!("{} {word}", NAMES[kind as usize]), kind, size)));
+    for (_, kind, size) in rows.filter(|row| row.0 == name) {
+        let (bytes, mut next, started) = (Bytes::of(&scene(rng, kind, size, false)), [0; 700], Instant::now());
+        while started.elapsed().as_secs() < seconds {
+            for _ in 0..1000 {
+                black_box(bytes.ours(&mut next));
+            }
+        }
+        return true;
+    }
+    false
 }
 
 const HEAD: [&str; 6] = ["fold", "ours, ns", "Rust, fold alone, ns", "ratio", "Rust with decoder, ns", "ratio"];

@@ -7,6 +7,8 @@ use crate::plain::{Changed, Ledger};
 use crate::random::Rng;
 use crate::samples::{FULL, SMALL, Size, TYPICAL, attempt, registry};
 use crate::scene::{Credential, Registry, image};
+use std::hint::black_box;
+use std::time::Instant;
 
 const NAMES: [&str; 7] = ["", "vcp", "vrt", "iss", "rev", "bis", "brv"];
 
@@ -132,6 +134,27 @@ pub fn growth(rng: &mut Rng, rounds: usize) {
         put(&mut table, format!("rev, {registries} registries, {rows} rows"), number.to_string(), times);
     }
     table.print();
+}
+
+/// Calls ours alone for some seconds, for a profiler, on a full ledger: "apply", "look up", "write" or "read".
+pub fn profile(rng: &mut Rng, name: &str, seconds: u64) -> bool {
+    let store = store(rng, 16, 256, TYPICAL);
+    let (bytes, mut block) = (image(&store.registries, &store.rows), store.block.clone());
+    let (key, mut out) = (store.rows.last().expect("rows"), vec![0; bytes.len()]);
+    // Refused with 29, after all checks.
+    let attempt = store.attempt(rng, 3).expect("an iss");
+    let started = Instant::now();
+    while started.elapsed().as_secs() < seconds {
+        let said = match name {
+            "apply" => block.apply(&attempt),
+            "look up" => block.look_up(&key.registry, &key.credential),
+            "write" => block.write_image(&mut out),
+            "read" => block.read_image(&bytes),
+            _ => return false,
+        };
+        black_box(said);
+    }
+    true
 }
 
 /// Look-ups, and images read and written; images in GB/s too.

@@ -2,8 +2,16 @@
 #[cfg(feature = "library")]
 fn main() {
     use harness::random::Rng;
-    let rounds = std::env::args().skip_while(|w| w != "--rounds").nth(1).and_then(|w| w.parse().ok()).unwrap_or(301);
+    let word = |name: &str| std::env::args().skip_while(|w| w != name).nth(1);
+    let rounds = word("--rounds").map_or(301, |w| w.parse().expect("a number"));
     let rng = &mut Rng::new(1);
+    if let Some(row) = word("--profile") {
+        let known = harness::bench_folds::profile(rng, &row, 5);
+        #[cfg(feature = "ledger")]
+        let known = known || harness::bench_ledger::profile(rng, &row, 5);
+        assert!(known, "no such row");
+        return;
+    }
     harness::bench_folds::folds(rng, rounds);
     harness::bench_folds::decoding(rng, rounds);
     #[cfg(feature = "ledger")]
