@@ -65,19 +65,25 @@ pub fn ledgers(rng: &mut Rng, checker: &mut Checker) {
             let mut held = sound.clone();
             // Repeated keys are looked for in both ways.
             let mut plain = Some(Ledger { hashed: k % 2 == 0, ..ledger.clone() });
-            if k % 4 == 3 {
+            if k == 31 {
+                // Any pattern of bits, behind counts that are mostly small.
+                held = random_block(rng);
+                let counts = (*rng.pick(&[0, 0, 1, 16, u64::MAX]), *rng.pick(&[0, 0, 1, 256, u64::MAX]));
+                held.set_counts(counts.0, counts.1);
+                plain = plain_of(&held.table(), &checker.keys);
+            } else if k % 4 == 3 {
                 let mut table = world.table();
                 let which = rng.below(BREAKS);
                 break_rule(rng, &mut table, which);
                 held.store(&table);
                 plain = plain_of(&held.table(), &checker.keys);
             }
-            match k % 8 {
-                0 | 3 | 5 => {
+            match rng.below(8) {
+                0 | 1 => {
                     let (registry, credential) = key(rng, &world);
                     checker.look_up(&held, plain.as_ref(), &registry, &credential);
                 }
-                1 => {
+                2 => {
                     let n = rng.word();
                     checker.write_image(&held, plain.as_ref(), |size| room(&mut Rng::new(n), size));
                 }
@@ -137,10 +143,10 @@ pub fn images(rng: &mut Rng, checker: &mut Checker) {
         let start = block(rng, &other.table());
         let wild = random_block(rng);
         for k in 0..16 {
-            let mut held = if k % 4 == 2 { wild.clone() } else { start.clone() };
+            let mut held = if k % 8 < 4 { start.clone() } else { wild.clone() };
             let bytes = image_case(rng, &world, k % 4);
             checker.read_image(&mut held, &bytes);
-            if k % 8 == 0 {
+            if k % 4 == 0 {
                 let plain: Option<Ledger> = plain_of(&held.table(), &checker.keys);
                 checker.write_image(&held, plain.as_ref(), |size| size);
             }

@@ -17,28 +17,46 @@ pub struct World {
 
 impl World {
     pub fn new(rng: &mut Rng, registries: usize, rows: usize) -> Self {
-        let registries: Vec<Registry> = (0..registries)
-            .map(|_| {
-                let backerless = rng.once_in(2);
-                let mut registry = make::registry(rng, backerless);
-                if rng.once_in(30) {
-                    registry.sn = u128::MAX;
-                }
-                registry
-            })
-            .collect();
-        let mut world = Self { registries, rows: vec![] };
-        for _ in 0..if world.registries.is_empty() { 0 } else { rows } {
-            let id = rng.pick(&world.registries).id;
-            let sn = rng.below(2) as u128;
-            let mut row = make::credential(rng, &id, sn);
-            // One credential under two registries is two keys.
-            if let Some(other) = world.rows.last().filter(|o| o.registry != id && rng.once_in(6)) {
-                row.credential = other.credential;
-            }
+        let mut world = Self::default();
+        for _ in 0..registries {
+            let registry = world.another_registry(rng);
+            world.registries.push(registry);
+        }
+        for _ in 0..if registries == 0 { 0 } else { rows } {
+            let row = world.another_row(rng);
             world.rows.push(row);
         }
         world
+    }
+
+    fn another_registry(&self, rng: &mut Rng) -> Registry {
+        let backerless = rng.once_in(2);
+        let mut registry = make::registry(rng, backerless);
+        // Ids that differ in as little as the letter.
+        if let Some(other) = self.registries.last().filter(|_| rng.once_in(6)) {
+            let near = rng.near(&other.id);
+            if self.registries.iter().all(|r| r.id != near) {
+                registry.id = near;
+            }
+        }
+        if rng.once_in(30) {
+            registry.sn = u128::MAX;
+        }
+        registry
+    }
+
+    fn another_row(&self, rng: &mut Rng) -> Credential {
+        let id = rng.pick(&self.registries).id;
+        let sn = rng.below(2) as u128;
+        let mut row = make::credential(rng, &id, sn);
+        if let Some(other) = self.rows.last().filter(|_| rng.once_in(4)) {
+            // One credential under two registries is two keys; and keys may differ in as little as the letter.
+            let credential = if other.registry != id { other.credential } else { rng.near(&other.credential) };
+            if self.rows.iter().all(|r| (r.registry, r.credential) != (id, credential)) {
+                row.credential = credential;
+            }
+        }
+        row
     }
 
     /// Any sizes: empty, small, and at both limits.
