@@ -3,7 +3,7 @@
 fn main() {
     use harness::random::Rng;
     let word = |name: &str| std::env::args().skip_while(|w| w != name).nth(1);
-    let rounds = word("--rounds").map_or(301, |w| w.parse().expect("a number"));
+    let rounds = word("--rounds").map_or(1001, |w| w.parse().expect("a number"));
     let rng = &mut Rng::new(1);
     if let Some(row) = word("--profile") {
         let known = harness::bench_folds::profile(rng, &row, 5);
