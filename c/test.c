@@ -117,14 +117,59 @@ static void test_sizes(void) {
     CHECK(JAMFELL_STATUS_INPUT_BYTES_MAX == 3 * 33 + 1 + 1 + JAMFELL_REGISTRY_STATE_BYTES_MAX + 1 + JAMFELL_CREDENTIAL_STATE_BYTES + 1 + 33);
 }
 
+/* Every number with its name. */
+static const struct {
+    uint8_t number;
+    const char *name;
+} names[] = {
+    {JAMFELL_ACCEPTED, "Accepted"},
+    {JAMFELL_MALFORMED, "Malformed"},
+    {JAMFELL_MISSING_REGISTRY, "MissingRegistry"},
+    {JAMFELL_DUPLICATE_INCEPTION, "DuplicateInception"},
+    {JAMFELL_ALREADY_ISSUED, "AlreadyIssued"},
+    {JAMFELL_MISSING_CREDENTIAL_STATE, "MissingCredentialState"},
+    {JAMFELL_NOT_REGISTRY_INCEPTION, "NotRegistryInception"},
+    {JAMFELL_NOT_MANAGEMENT_ROTATION, "NotManagementRotation"},
+    {JAMFELL_NOT_CREDENTIAL_INCEPTION, "NotCredentialInception"},
+    {JAMFELL_NOT_CREDENTIAL_TRANSITION, "NotCredentialTransition"},
+    {JAMFELL_INCONSISTENT_REGISTRY, "InconsistentRegistry"},
+    {JAMFELL_NO_BACKERS_WITH_BACKERS, "NoBackersWithBackers"},
+    {JAMFELL_SIMPLE_EVENT_ON_BACKER_REGISTRY, "SimpleEventOnBackerRegistry"},
+    {JAMFELL_BACKED_EVENT_ON_BACKERLESS_REGISTRY, "BackedEventOnBackerlessRegistry"},
+    {JAMFELL_ROTATION_ON_BACKERLESS_REGISTRY, "RotationOnBackerlessRegistry"},
+    {JAMFELL_SEQUENCE_NUMBER_OVERFLOW, "SequenceNumberOverflow"},
+    {JAMFELL_OUT_OF_ORDER, "OutOfOrder"},
+    {JAMFELL_PRIOR_DIGEST_MISMATCH, "PriorDigestMismatch"},
+    {JAMFELL_MISSING_ISSUER, "MissingIssuer"},
+    {JAMFELL_INCONSISTENT_ISSUER, "InconsistentIssuer"},
+    {JAMFELL_MISSING_ANCHOR, "MissingAnchor"},
+    {JAMFELL_INCONSISTENT_ANCHOR, "InconsistentAnchor"},
+    {JAMFELL_INCONSISTENT_MANAGEMENT, "InconsistentManagement"},
+    {JAMFELL_UNRESOLVED_ANCHOR, "UnresolvedAnchor"},
+    {JAMFELL_BACKER_SET, "BackerSet"},
+    {JAMFELL_TOO_MANY_BACKERS, "TooManyBackers"},
+    {JAMFELL_BACKER_THRESHOLD, "BackerThreshold"},
+    {JAMFELL_MISSING_BACKER_RECEIPTS, "MissingBackerReceipts"},
+    {JAMFELL_INCONSISTENT_CREDENTIAL, "InconsistentCredential"},
+    {JAMFELL_NO_ROOM, "NoRoom"},
+    {JAMFELL_SHORT_BUFFER, "ShortBuffer"},
+    {JAMFELL_STATUS_MISSING_REGISTRY, "MissingRegistry"},
+    {JAMFELL_STATUS_MISSING_CREDENTIAL_STATE, "MissingCredentialState"},
+    {JAMFELL_STATUS_MISSING_ISSUER_STATE, "MissingIssuerState"},
+    {JAMFELL_STATUS_MISSING_REGISTRY_REFERENCE, "MissingRegistryReference"},
+    {JAMFELL_STATUS_REGISTRY_MISMATCH, "RegistryMismatch"},
+    {JAMFELL_STATUS_ISSUER_MISMATCH, "IssuerMismatch"},
+    {JAMFELL_STATUS_ISSUER_STATE_MISMATCH, "IssuerStateMismatch"},
+    {JAMFELL_STATUS_CREDENTIAL_STATE_MISMATCH, "CredentialStateMismatch"},
+    {JAMFELL_STATUS_REVOKED, "Revoked"},
+};
+
 static void test_names(void) {
-    CHECK(strcmp(jamfell_name(JAMFELL_ACCEPTED), "Accepted") == 0);
-    CHECK(strcmp(jamfell_name(JAMFELL_MISSING_REGISTRY), "MissingRegistry") == 0);
-    CHECK(strcmp(jamfell_name(JAMFELL_OUT_OF_ORDER), "OutOfOrder") == 0);
-    CHECK(strcmp(jamfell_name(JAMFELL_MISSING_BACKER_RECEIPTS), "MissingBackerReceipts") == 0);
-    CHECK(strcmp(jamfell_name(JAMFELL_SHORT_BUFFER), "ShortBuffer") == 0);
-    CHECK(strcmp(jamfell_name(JAMFELL_STATUS_MISSING_REGISTRY), "MissingRegistry") == 0);
-    CHECK(strcmp(jamfell_name(JAMFELL_STATUS_REVOKED), "Revoked") == 0);
+    size_t i;
+    CHECK(sizeof names / sizeof names[0] == 40);
+    for (i = 0; i < sizeof names / sizeof names[0]; i++) {
+        CHECK(names[i].number == i && strcmp(jamfell_name(names[i].number), names[i].name) == 0);
+    }
     CHECK(strcmp(jamfell_name(40), "?") == 0);
     CHECK(strcmp(jamfell_name(255), "?") == 0);
 }
