@@ -3,7 +3,7 @@
 mod common;
 
 use common::lent::Side;
-use common::raw::Host;
+use common::raw::{Answer, Host};
 use common::recorded::runs;
 use common::world::{bytes, every_kind, filling, full_key, said, vrt_of};
 use common::Random;
@@ -70,6 +70,56 @@ fn an_empty_ledger_in_any_bytes() {
     }
 }
 
+/// Both counts become 0, and nothing else changes.
+#[test]
+fn made_empty() {
+    let mut random = Random::new(8);
+    let mut host = Host::new(Side::End);
+    random.fill(host.ledger.bytes_mut());
+    let mut expected = host.ledger.bytes().to_vec();
+    expected[12928..12936].fill(0);
+    expected[47752..].fill(0);
+    host.empty();
+    assert!(host.ledger.bytes() == expected);
+}
+
+/// Keys of each length, and with each letter: only two saids of 33 bytes are a key.
+#[test]
+fn keys() {
+    let mut host = Host::new(Side::End);
+    let whole = said(1).as_bytes().to_vec();
+    let longer = [&whole[..], &[0; 7]].concat();
+    for size in 0..longer.len() {
+        let expected = u8::from(size != 33);
+        assert_eq!(host.look_up(&longer[..size], &whole).number, expected);
+        assert_eq!(host.look_up(&whole, &longer[..size]).number, expected);
+    }
+    for letter in 0..=255 {
+        let other = [&[letter], &whole[1..]].concat();
+        let expected = u8::from(!b"EFGHI".contains(&letter));
+        assert_eq!(host.look_up(&other, &whole).number, expected);
+        assert_eq!(host.look_up(&whole, &other).number, expected);
+    }
+}
+
+/// A ledger that breaks a rule is refused before a buffer that is too short.
+#[test]
+fn a_broken_ledger_and_a_short_buffer() {
+    let mut host = Host::new(Side::End);
+    for room in 0..10 {
+        set_counts(&mut host, 0, 0);
+        assert_eq!(host.write_image(room).0.number, if room < 4 { 30 } else { 0 });
+        set_counts(&mut host, 17, 0);
+        assert_eq!(host.write_image(room).0.number, 1);
+    }
+}
+
+/// The places of both counts and of the first so many registries and rows.
+fn used(held: usize) -> Vec<usize> {
+    let places = [0..808 * held.min(16), 12928..12936 + 136 * held, 47752..LEDGER_BYTES];
+    places.into_iter().flatten().collect()
+}
+
 /// One bit of a sound block changed, anywhere among the states that are held and the counts.
 #[test]
 fn one_bit_changed() {
@@ -77,8 +127,7 @@ fn one_bit_changed() {
     let attempts = attempts();
     for (side, whole, held) in [(Side::Start, small_block(), 2), (Side::End, full_block(), 256)] {
         let mut host = Host::new(side);
-        let places = [0..808 * held.min(16), 12928..12936 + 136 * held, 47752..LEDGER_BYTES];
-        let places: Vec<_> = places.into_iter().flatten().collect();
+        let places = used(held);
         let (mut refused, mut sound) = (0, 0);
         for _ in 0..4000 {
             host.ledger.lend_copy(&whole);
@@ -96,6 +145,14 @@ fn one_bit_changed() {
     }
 }
 
+/// Whether the image is the same when the byte at a place is another.
+fn is_free(host: &mut Host, image: &(Answer, Vec<u8>), at: usize) -> bool {
+    host.ledger.bytes_mut()[at] ^= 0xff;
+    let free = host.write_image(ROOM) == *image;
+    host.ledger.bytes_mut()[at] ^= 0xff;
+    free
+}
+
 /// The bytes that the image does not show: those behind the counts, and what a struct leaves free between its fields. A refusal keeps
 /// these, too, whatever they are.
 #[test]
@@ -106,15 +163,14 @@ fn bytes_that_no_image_shows() {
     let whole = small_block();
     host.ledger.lend_copy(&whole);
     let image = host.write_image(ROOM);
-    let mut free = Vec::new();
-    for at in 0..LEDGER_BYTES {
-        host.ledger.bytes_mut()[at] ^= 0xff;
-        if host.write_image(2000).1 == image.1[..2000] {
-            free.push(at);
-        }
-        host.ledger.bytes_mut()[at] ^= 0xff;
-    }
-    println!("{} bytes are free", free.len());
+    let used = used(2);
+    let between: Vec<_> = used
+        .iter()
+        .copied()
+        .filter(|at| is_free(&mut host, &image, *at))
+        .collect();
+    let behind = (0..LEDGER_BYTES).filter(|at| !used.contains(at));
+    let free: Vec<_> = behind.chain(between).collect();
     for _ in 0..500 {
         host.ledger.lend_copy(&whole);
         free.iter()

@@ -2,12 +2,12 @@
 mod common;
 
 use common::lent::Side;
-use common::raw::{Host, EMPTY};
+use common::raw::{Answer, Host, EMPTY};
 use common::world::*;
 use common::Random;
 use jamfell::attempt::TelEvent;
 use jamfell::folds::{credential_incept, credential_ingest, registry_incept, registry_ingest};
-use jamfell::state::{CredentialState, RegistryState, CREDENTIAL_STATE_BYTES, REGISTRY_STATE_BYTES_MAX};
+use jamfell::state::{CredentialState, RegistryState, REGISTRY_STATE_BYTES_MAX};
 use jamfell::{Ledger, Refused};
 
 /// What a fold leaves, as bytes of their own.
@@ -120,27 +120,38 @@ fn the_state_of_another() {
     );
 }
 
-/// A buffer of each length: it is refused until it is long enough, and never written in part (as `Host` holds it to).
+/// Whether a fold refuses every buffer that is too short for its state and takes every other, up to so many bytes. None is written in
+/// part (as `Host` holds it to).
+fn needs(most: usize, expected: &[u8], mut fold: impl FnMut(usize) -> (Answer, Vec<u8>)) {
+    let size = expected.len();
+    for room in 0..most {
+        let (answer, out) = fold(room);
+        assert_eq!(answer.number, if room < size { 30 } else { 0 });
+        if answer.number == 0 {
+            assert_eq!(answer.values, [size as u128]);
+            assert_eq!(out[..size], *expected);
+            assert!(out[size..].iter().all(|byte| *byte == EMPTY));
+        }
+    }
+}
+
 #[test]
 fn buffers_of_each_length() {
-    let (registry, attempt) = (registry(), bytes(vrt()));
-    let expected = state(|next| registry_ingest(&registry, &attempt, next));
+    let (registry, without, issued) = (registry(), without_backers(), issued());
+    let rotated = state(|next| registry_ingest(&registry, &bytes(vrt()), next));
+    let revoked = state(|next| credential_ingest(&without, &issued, &bytes(rev()), next));
     for side in [Side::Start, Side::End] {
         let mut host = Host::new(side);
-        for room in 0..REGISTRY_STATE_BYTES_MAX {
-            let (answer, out) = host.registry_ingest(&registry, &attempt, room);
-            assert_eq!(answer.number, if room < expected.len() { 30 } else { 0 });
-            if answer.number == 0 {
-                assert_eq!(answer.values, [expected.len() as u128]);
-                assert_eq!(out[..expected.len()], expected);
-            }
-        }
-        for room in 0..CREDENTIAL_STATE_BYTES {
-            assert_eq!(
-                host.credential_incept(&without_backers(), &bytes(iss()), room).0.number,
-                30
-            );
-        }
+        needs(300, &registry, |room| host.registry_incept(&bytes(vcp()), room));
+        needs(300, &rotated, |room| {
+            host.registry_ingest(&registry, &bytes(vrt()), room)
+        });
+        needs(200, &issued, |room| {
+            host.credential_incept(&without, &bytes(iss()), room)
+        });
+        needs(200, &revoked, |room| {
+            host.credential_ingest([&without, &issued], &bytes(rev()), room)
+        });
     }
 }
 

@@ -138,13 +138,42 @@ fn the_order_of_events() {
     refuses(&with_both(), sound(other), Refusal::PriorDigestMismatch, Terminal);
 }
 
-/// A registry whose sn is the last that there is can only come from an image.
+/// A ledger whose first registry has this sn, which no run of events reaches. It can only come from an image.
+fn at_sn(sn: u128) -> Ledger {
+    let mut image = with_both().to_image().unwrap();
+    image[2 + 66..2 + 82].copy_from_slice(&sn.to_be_bytes());
+    Ledger::from_image(&image).unwrap()
+}
+
 #[test]
 fn the_last_sn() {
-    let mut image = with_both().to_image().unwrap();
-    image[2 + 66..2 + 82].fill(0xff);
-    let ledger = Ledger::from_image(&image).unwrap();
-    refuses(&ledger, sound(vrt()), Refusal::SequenceNumberOverflow, Terminal);
+    refuses(
+        &at_sn(u128::MAX),
+        sound(vrt()),
+        Refusal::SequenceNumberOverflow,
+        Terminal,
+    );
+}
+
+/// An sn has 128 bits, in either value.
+#[test]
+fn large_numbers() {
+    let (expected, actual) = (0x0102030405060708_090a0b0c0d0e0f10, 0x1112131415161718_191a1b1c1d1e1f20);
+    let attempt = |sn| sound(vrt_of(sn, 3, vec![], vec![]));
+    let gap = Awaiting(EvidenceKind::PriorEvents { expected_sn: expected });
+    refuses(
+        &at_sn(expected - 1),
+        attempt(actual),
+        Refusal::OutOfOrder { expected, actual },
+        gap,
+    );
+    let (expected, actual) = (actual, expected);
+    refuses(
+        &at_sn(expected - 1),
+        attempt(actual),
+        Refusal::OutOfOrder { expected, actual },
+        Contested,
+    );
 }
 
 #[test]

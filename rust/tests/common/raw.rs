@@ -65,6 +65,13 @@ impl Host {
         answer
     }
 
+    /// The call without a report.
+    pub fn empty(&mut self) {
+        // SAFETY: the block is lent.
+        unsafe { sys::jamfell_empty(self.ledger.bytes_mut().as_mut_ptr().cast()) };
+        assert!(self.ledger.is_guarded());
+    }
+
     pub fn apply(&mut self, attempt: &[u8]) -> Answer {
         let (at, size) = self.input(0, attempt);
         // SAFETY: in this and the other calls all that is handed over is lent, apart from each other.
