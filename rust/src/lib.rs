@@ -11,6 +11,38 @@
 //! What the host is trusted with: the verdicts on signatures that it puts in an attempt, and that the key events and the key states
 //! that it hands over are accepted ones.
 //!
+//! A registry, a credential that is issued under it, and its revocation:
+//!
+//! ```
+//! use jamfell::attempt::{AnchoringEvent, Attempt, TelEvent, TelEvidence};
+//! use jamfell::state::ConfigTrait;
+//! use jamfell::{BasicPrefix, Key, Ledger, Said, Standing};
+//!
+//! # fn main() -> Result<(), Box<dyn std::error::Error>> {
+//! let issuer = BasicPrefix::new(b'D', [1; 32])?.into();
+//! // Each event is anchored in the issuer's key log. A host has these key events; here they are made up.
+//! let anchored = |event: TelEvent| {
+//!     let key_event = AnchoringEvent { prefix: issuer, sn: 1, said: event.said(), seals: vec![event.seal()] };
+//!     let evidence = TelEvidence::Issuer { prefix: issuer, anchor: None };
+//!     Attempt::new(event).anchored_by(key_event).with_evidence(evidence).to_bytes()
+//! };
+//! let [registry, credential, issue, revocation] = [2, 3, 4, 5].map(|n| Said::new(b'E', [n; 32]).unwrap());
+//!
+//! let mut ledger = Ledger::new();
+//! let (configs, backers) = (vec![ConfigTrait::NoBackers], vec![]);
+//! let vcp = TelEvent::RegistryInception { said: registry, issuer, toad: 0, configs, backers };
+//! ledger.apply(&anchored(vcp)?)?;
+//!
+//! let key = Key { registry, credential };
+//! assert_eq!(ledger.standing(&key)?, Standing::Unknown);
+//! ledger.apply(&anchored(TelEvent::Issue { said: issue, credential, registry })?)?;
+//! assert_eq!(ledger.standing(&key)?, Standing::Issued);
+//! ledger.apply(&anchored(TelEvent::Revoke { said: revocation, credential, registry, prior: issue })?)?;
+//! assert_eq!(ledger.standing(&key)?, Standing::Revoked);
+//! # Ok(())
+//! # }
+//! ```
+//!
 //! The calls are in `libhost.a`, for x86-64 Linux. `rt staticlib host` in the repository writes it to target/staticlib, where the
 //! build looks for it; the variable JAMFELL_LIB names another folder.
 #![deny(missing_docs)]
