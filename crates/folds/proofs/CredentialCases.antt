@@ -15,12 +15,12 @@ use Rattle.registry_credential_state.specs.CredentialFolds.{ingestOf}
 use Rattle.folds.specs.declared.part.Finding.{Finding}
 use Rattle.folds.specs.declared.part.RegistryPart.{RegistryPart}
 use Rattle.folds.specs.declared.part.CredentialPart.{CredentialPart}
-use Rattle.folds.specs.Reports.{Report, answerReport, sameReport}
+use Rattle.host_report.specs.Reports.{answerReport}
 use Rattle.folds.specs.Judgement.{registryIn, credentialIn, viewRegistryPart, viewCredentialPart, wellView, issueOf, revokeOf, credentialAgrees, unread, judgeIssue, judgeRevoke}
 
-pub credential-found : (e next held : List ℕ) (o : CredentialOutcome) (p : Outcome) (t : Report) (told kept : Bool) → viewOutcome o ≡ p → t ≡ answerReport (o .answer) → told ≡ sameReport t e → kept ≡ sameList (credentialBytes (o .state)) (cond (accepts (o .answer)) next held) → _≡_ {A = Finding} (record { agrees = told && kept; read = true }) (credentialAgrees e next held p)
+pub credential-found : (e next held : List ℕ) (o : CredentialOutcome) (p : Outcome) (told kept : Bool) → viewOutcome o ≡ p → told ≡ sameList (answerReport (o .answer)) e → kept ≡ sameList (credentialBytes (o .state)) (cond (accepts (o .answer)) next held) → _≡_ {A = Finding} (record { agrees = told && kept; read = true }) (credentialAgrees e next held p)
 unfolding credentialAgrees
-credential-found e next held o p t told kept q a b k = rw (← q, b, a, k)
+credential-found e next held o p told kept q b k = rw (← q, b, k)
 
 module _ (e next registry attempt : List ℕ) (g : RegistryPart) (q : viewRegistryPart g ≡ registryIn registry) where
   pub issue-unread : g .ok ≡ false → unread e ≡ judgeIssue e next registry attempt

@@ -13,12 +13,12 @@ use Rattle.registry_inception.specs.InceptionFolds.{Outcome, viewOutcome}
 use Rattle.registry.specs.RegistryFolds.{ingestOf}
 use Rattle.folds.specs.declared.part.Finding.{Finding}
 use Rattle.folds.specs.declared.part.RegistryPart.{RegistryPart}
-use Rattle.folds.specs.Reports.{Report, answerReport, sameReport}
+use Rattle.host_report.specs.Reports.{answerReport}
 use Rattle.folds.specs.Judgement.{registryIn, viewRegistryPart, wellView, rotateOf, registryAgrees, unread, judgeRotate}
 
-pub registry-found : (e next held : List ℕ) (o : RegistryOutcome) (p : Outcome) (t : Report) (told kept : Bool) → viewOutcome o ≡ p → t ≡ answerReport (o .answer) → told ≡ sameReport t e → kept ≡ sameList (registryBytes (viewRegistry (o .state))) (cond (accepts (o .answer)) next held) → _≡_ {A = Finding} (record { agrees = told && kept; read = true }) (registryAgrees e next held p)
+pub registry-found : (e next held : List ℕ) (o : RegistryOutcome) (p : Outcome) (told kept : Bool) → viewOutcome o ≡ p → told ≡ sameList (answerReport (o .answer)) e → kept ≡ sameList (registryBytes (viewRegistry (o .state))) (cond (accepts (o .answer)) next held) → _≡_ {A = Finding} (record { agrees = told && kept; read = true }) (registryAgrees e next held p)
 unfolding registryAgrees
-registry-found e next held o p t told kept q a b k = rw (← q, b, a, k)
+registry-found e next held o p told kept q b k = rw (← q, b, k)
 
 module _ (e next held attempt : List ℕ) (g : RegistryPart) (q : viewRegistryPart g ≡ registryIn held) where
   pub rotate-unread : g .ok ≡ false → unread e ≡ judgeRotate e next held attempt

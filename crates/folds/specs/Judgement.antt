@@ -21,10 +21,10 @@ use Rattle.registry.specs.RegistryFolds as G
 use Rattle.registry_issue.specs.IssueFolds as I
 use Rattle.registry_credential_state.specs.CredentialFolds as W
 use Rattle.registry_credential.specs.Status.{statusOf}
+use Rattle.host_report.specs.Reports.{rejectionReport, answerReport, statusReport}
 use Rattle.folds.specs.declared.part.Finding.{Finding}
 use Rattle.folds.specs.declared.part.RegistryPart.{RegistryPart}
 use Rattle.folds.specs.declared.part.CredentialPart.{CredentialPart}
-use Rattle.folds.specs.Reports.{rejectionReport, answerReport, statusReport, sameReport}
 
 -- a state in a record's bytes, and whether these are such a state and nothing else
 pub record Part (A : Type 0) : Type 0 where
@@ -68,16 +68,16 @@ revokeOf g w s =
 unfoldable pub registryAgrees : List ℕ → List ℕ → List ℕ → N.Outcome → Finding
 registryAgrees expected next held o =
     record
-    { agrees = sameReport (answerReport (o .answer)) expected && sameList (registryBytes (o .state)) (cond (accepts (o .answer)) next held); read = true }
+    { agrees = sameList (answerReport (o .answer)) expected && sameList (registryBytes (o .state)) (cond (accepts (o .answer)) next held); read = true }
 
 unfoldable pub credentialAgrees : List ℕ → List ℕ → List ℕ → I.Outcome → Finding
 credentialAgrees expected next held o =
     record
-    { agrees = sameReport (answerReport (o .answer)) expected && sameList (credentialBytes (o .state)) (cond (accepts (o .answer)) next held); read = true }
+    { agrees = sameList (answerReport (o .answer)) expected && sameList (credentialBytes (o .state)) (cond (accepts (o .answer)) next held); read = true }
 
 -- a state that is no state is answered with 1
 unfoldable pub unread : List ℕ → Finding
-unread expected = record { agrees = sameReport (rejectionReport Malformed) expected; read = false }
+unread expected = record { agrees = sameList (rejectionReport Malformed) expected; read = false }
 
 -- where no state is handed in, the one behind a refusal is blank
 unfoldable pub judgeIncept : List ℕ → List ℕ → List ℕ → Finding
@@ -100,7 +100,7 @@ judgeRevoke expected next registry held attempt =
     cond (g .ok && w .ok) (credentialAgrees expected next held (revokeOf (g .value) (w .value) attempt)) (unread expected)
 
 unfoldable pub judgeStatus : List ℕ → List ℕ → Finding
-judgeStatus expected input = record { agrees = sameReport (statusReport (statusOf input)) expected; read = true }
+judgeStatus expected input = record { agrees = sameList (statusReport (statusOf input)) expected; read = true }
 
 -- the call's byte; any other byte is no call, and nothing agrees with it
 unfoldable pub judgeCall : ℕ → List ℕ → List ℕ → List ℕ → List ℕ → List ℕ → Finding

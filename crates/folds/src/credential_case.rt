@@ -3,9 +3,8 @@ use crate::part::Finding;
 use crate::part::read_credential;
 use crate::part::read_registry;
 use crate::part::same;
+use crate::part::same_report;
 use crate::part::unread;
-use crate::report::answered;
-use crate::report::same_told;
 use registry_answer::answer::accepts;
 use registry_credential_state::credential_state::ingest;
 use registry_issue::credential_state::CredentialOutcome;
@@ -46,7 +45,7 @@ pub(crate) fn judge_issue(expected: &[u8], next: &[u8], registry: &[u8], attempt
     }
     let o = incept(g.value, attempt);
     let answer = o.answer;
-    let told = same_told(answered(answer), expected);
+    let told = same_report(answer, expected);
     let agrees = told & credential_agrees(o, next, &blank);
     Finding { agrees, read: true }
 }
@@ -67,7 +66,7 @@ pub(crate) fn judge_revoke(
     }
     let o = ingest(g.value, w.value, attempt);
     let answer = o.answer;
-    let told = same_told(answered(answer), expected);
+    let told = same_report(answer, expected);
     let agrees = told & credential_agrees(o, next, held);
     Finding { agrees, read: true }
 }

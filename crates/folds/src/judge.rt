@@ -2,13 +2,12 @@
 use crate::credential_case::judge_issue;
 use crate::credential_case::judge_revoke;
 use crate::part::Finding;
+use crate::part::same;
 use crate::registry_case::judge_incept;
 use crate::registry_case::judge_rotate;
-use crate::report::same_told;
-use crate::report::status_answered;
 use cesr::number::read_u8;
 use cesr::number::read_u16;
-use registry_credential::credential::CredentialVerifier;
+use host_folds::credential_calls::status;
 use registry_wire::attempt::Part;
 ghost use mathlib.Core.Path.{_≡_};
 ghost use Rattle.folds.specs.Judgement.{judgeStatus, judgeCall, judgeOf};
@@ -16,8 +15,9 @@ ghost use Rattle.folds.specs.Judgement.{judgeStatus, judgeCall, judgeOf}
 fn judge_status(expected: &[u8], input: &[u8]) -> Finding
     ensures { λ r. ⌜ r ≡ judgeStatus (now (expected .entry)) (now (input .entry)) ⌝ }
 {
-    let o = CredentialVerifier::status(input);
-    let agrees = same_told(status_answered(o), expected);
+    let mut report = [0u8; 36];
+    status(input, &mut report);
+    let agrees = same(&report, expected);
     Finding { agrees, read: true }
 }
 

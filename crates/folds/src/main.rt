@@ -10,7 +10,6 @@ mod credential_case;
 mod judge;
 mod part;
 mod registry_case;
-mod report;
 mod tally;
 
 use judge::judge_record;

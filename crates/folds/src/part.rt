@@ -1,13 +1,14 @@
 // What a record has: the states that are handed in, and what is found of the case.
-use crate::report::rejected;
-use crate::report::same_told;
 use codec_cursor::cursor::Cursor;
+use host_report::report::report_answer;
+use registry_error::error::Answer;
 use registry_error::error::RegistryRejection;
 use registry_state::state::CredentialState;
 use registry_state::state::RegistryState;
 ghost use mathlib.Core.Path.{_≡_};
 ghost use Rattle.laws.specs.Words.{sameList};
 ghost use Rattle.registry_state.specs.States.{viewRegistry, wellRegistry};
+ghost use Rattle.host_report.specs.Reports.{answerReport};
 ghost use Rattle.folds.specs.Judgement.{registryIn, credentialIn, viewRegistryPart, viewCredentialPart, wellView, unread};
 
 // What is found of a case.
@@ -32,6 +33,15 @@ pub(crate) fn same(a: &[u8], b: &[u8]) -> bool
     ensures { λ r. ⌜ r ≡ sameList (now (a .entry)) (now (b .entry)) ⌝ }
 {
     check::same(a, b)
+}
+
+// Whether a record's 36 bytes are the report of an answer.
+pub(crate) fn same_report(answer: Answer, expected: &[u8]) -> bool
+    ensures { λ r. ⌜ r ≡ sameList (answerReport answer) (now (expected .entry)) ⌝ }
+{
+    let mut report = [0u8; 36];
+    report_answer(answer, &mut report);
+    same(&report, expected)
 }
 
 // Its counts are those of its lists, so that its bytes alone tell what it is.
@@ -74,7 +84,7 @@ pub(crate) fn read_credential(s: &[u8]) -> CredentialPart
 pub(crate) fn unread(expected: &[u8]) -> Finding
     ensures { λ r. ⌜ r ≡ unread (now (expected .entry)) ⌝ }
 {
-    let agrees = same_told(rejected(RegistryRejection::Malformed), expected);
+    let agrees = same_report(Answer::Rejected(RegistryRejection::Malformed), expected);
     Finding {
         agrees,
         read: false,

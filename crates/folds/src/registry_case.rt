@@ -2,9 +2,8 @@
 use crate::part::Finding;
 use crate::part::read_registry;
 use crate::part::same;
+use crate::part::same_report;
 use crate::part::unread;
-use crate::report::answered;
-use crate::report::same_told;
 use registry::registry::ingest;
 use registry_answer::answer::accepts;
 use registry_inception::registry::RegistryOutcome;
@@ -45,7 +44,7 @@ pub(crate) fn judge_incept(expected: &[u8], next: &[u8], attempt: &[u8]) -> Find
     let blank = [0u8; 121];
     let o = incept_with_evidence(attempt);
     let answer = o.answer;
-    let told = same_told(answered(answer), expected);
+    let told = same_report(answer, expected);
     let agrees = told & registry_agrees(o, next, &blank);
     Finding { agrees, read: true }
 }
@@ -59,7 +58,7 @@ pub(crate) fn judge_rotate(expected: &[u8], next: &[u8], held: &[u8], attempt: &
     }
     let o = ingest(g.value, attempt);
     let answer = o.answer;
-    let told = same_told(answered(answer), expected);
+    let told = same_report(answer, expected);
     let agrees = told & registry_agrees(o, next, held);
     Finding { agrees, read: true }
 }

@@ -1,5 +1,6 @@
 -- Laws of the bytes of a report.
 --     report-put   its marks and its two values, stored one behind the other in 36 bytes, are the report
+--     length-report, length-answer, length-status   a report has 36 bytes
 --     toad-number   the number of a threshold's answer
 use Prim.Native.Nat.{ℕ, _+_, _≤_}
 use mathlib.Core.Path.{_≡_, refl, ap, sym, _∙_}
@@ -16,8 +17,12 @@ use Rattle.cesr.specs.Numbers.{value, snBytes}
 use Rattle.events_toad.specs.Toads.{toadNumber}
 use Rattle.events_toad.specs.declared.toad.ToadResult.{ToadResult}
 use Rattle.events_toad.specs.declared.toad.ToadResult.the-variants.{Valid, OutOfRange, Overflow}
+use Rattle.registry_error.specs.declared.error.Answer.{Answer}
+use Rattle.registry_error.specs.declared.error.Answer.the-variants.{Accepted, Rejected}
 use Rattle.registry_error.specs.Errors.{answerNumber}
-use Rattle.host_report.specs.Reports.{reportBytes, thresholdAnswer}
+use Rattle.registry_credential.specs.declared.credential.StatusOutcome.{StatusOutcome}
+use Rattle.registry_credential.specs.declared.credential.StatusOutcome.the-variants as S
+use Rattle.host_report.specs.Reports.{reportBytes, reportWith, statusReport, thresholdAnswer}
 
 -- a run as long as the list stands in its place
 whole : (l vs : List ℕ) → length vs ≡ length l → sets l 0 vs ≡ vs
@@ -33,6 +38,19 @@ report-put l values number letter awaited count a b h e f g =
     let r = put-append l 0 20 16 (marks ++ digits 16 (value a)) (digits 16 (value b)) n (length-digits 16 (value b)) (omega arith) in
     let m : length ((marks ++ digits 16 (value a)) ++ digits 16 (value b)) ≡ 36 = rw (length-append, n, length-digits) in
     rw (p, q, r, put-sets l 0 36 _ m (omega arith), whole l _ (m ∙ sym h), e, f, g)
+
+pub length-report : (number letter awaited : ℕ) (values : List ℕ) → length (reportBytes number letter awaited values) ≡ 36
+unfolding reportBytes
+length-report number letter awaited values = simp (length-append, length-digits)
+
+pub length-answer : (a : Answer) (values : List ℕ) → length (reportWith a values) ≡ 36
+length-answer Accepted values = length-report _ _ _ _
+length-answer (Rejected r) values = length-report _ _ _ _
+
+pub length-status : (o : StatusOutcome) → length (statusReport o) ≡ 36
+length-status S.Accepted = length-report _ _ _ _
+length-status S.Malformed = length-report _ _ _ _
+length-status (S.Rejected e) = length-report _ _ _ _
 
 pub toad-number : (r : ToadResult) → answerNumber (thresholdAnswer r) ≡ toadNumber r
 toad-number (Valid t) = refl

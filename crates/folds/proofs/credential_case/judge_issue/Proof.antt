@@ -1,8 +1,8 @@
-use Rattle.folds.proofs.CredentialCases.{credential-found, issue-unread, issue-read}
-use denote.Ref.{now}
 use mathlib.Core.Path.{_∙_}
-use borrow.Author.Tests.{not-true, not-false}
 use lib.ListN.{replicate}
+use denote.Ref.{now}
+use borrow.Author.Tests.{not-true, not-false}
+use Rattle.folds.proofs.CredentialCases.{credential-found, issue-unread, issue-read}
 use borrow.Author.Needs.{needs}
 use Rattle.folds.proofs.credential_case.judge_issue.Statement.{statement}
 use Rattle.folds.proofs.credential_case.judge_issue.Tie as tie
@@ -23,11 +23,8 @@ returns c =
 incept-requires : tie.Need-incept-requires
 incept-requires c κs = search needs
 
-answered-requires : tie.Need-answered-requires
-answered-requires c κs = search needs
-
-same-told-requires : tie.Need-same-told-requires
-same-told-requires c κs = search needs
+same-report-requires : tie.Need-same-report-requires
+same-report-requires c κs = search needs
 
 slice-aggregate-credential-agrees : tie.Need-slice-aggregate-credential-agrees
 slice-aggregate-credential-agrees c = search needs
@@ -39,14 +36,13 @@ returns-2 : tie.Need-returns-2
 returns-2 c =
     let b2 = c .before .before in
     let b3 = b2 .before in
-    let b4 = b3 .before in
-    let b7 = b4 .before .before .before in
-    let a = b7 .before .before .before .before .before .args in
-    let g = b7 .read-registry .result in
+    let b6 = b3 .before .before .before in
+    let a = b6 .before .before .before .before .before .args in
+    let g = b6 .read-registry .result in
     let e = now (a .expected) in
     let next = now (a .next) in
-    credential-found e next (replicate 115 0) (b4 .incept .result) _ _ (b2 .same-told .result) (c .credential-agrees .result) (b4 .incept .ensures) (b3 .answered .ensures) (b2 .same-told .ensures) (c .credential-agrees .ensures)
-    ∙ issue-read e next (now (a .registry)) (now (a .attempt)) g (b7 .read-registry .ensures .0) (not-false (g .ok) (b4 .before .if1 .left)) (b7 .read-registry .ensures .1)
+    credential-found e next (replicate 115 0) (b3 .incept .result) _ (b2 .same-report .result) (c .credential-agrees .result) (b3 .incept .ensures) (b2 .same-report .ensures) (c .credential-agrees .ensures)
+    ∙ issue-read e next (now (a .registry)) (now (a .attempt)) g (b6 .read-registry .ensures .0) (not-false (g .ok) (b3 .before .if1 .left)) (b6 .read-registry .ensures .1)
 
 pub judge-issue-spec : {M : Type 1} → statement M
 judge-issue-spec =
@@ -56,8 +52,7 @@ judge-issue-spec =
     unread-requires
     returns
     incept-requires
-    answered-requires
-    same-told-requires
+    same-report-requires
     slice-aggregate-credential-agrees
     credential-agrees-requires
     returns-2)

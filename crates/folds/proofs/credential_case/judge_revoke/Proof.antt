@@ -1,8 +1,8 @@
-use Rattle.folds.proofs.CredentialCases.{credential-found, revoke-unread, revoke-read}
-use denote.Ref.{now}
 use mathlib.Core.Path.{_∙_}
-use borrow.Author.Tests.{not-true, not-false}
 use mathlib.Core.Bool.{_&&_}
+use denote.Ref.{now}
+use borrow.Author.Tests.{not-true, not-false}
+use Rattle.folds.proofs.CredentialCases.{credential-found, revoke-unread, revoke-read}
 use borrow.Author.Needs.{needs}
 use Rattle.folds.proofs.credential_case.judge_revoke.Statement.{statement}
 use Rattle.folds.proofs.credential_case.judge_revoke.Tie as tie
@@ -28,11 +28,8 @@ returns c =
 ingest-requires : tie.Need-ingest-requires
 ingest-requires c κs = search needs
 
-answered-requires : tie.Need-answered-requires
-answered-requires c κs = search needs
-
-same-told-requires : tie.Need-same-told-requires
-same-told-requires c κs = search needs
+same-report-requires : tie.Need-same-report-requires
+same-report-requires c κs = search needs
 
 credential-agrees-requires : tie.Need-credential-agrees-requires
 credential-agrees-requires c κs = search needs
@@ -41,17 +38,16 @@ returns-2 : tie.Need-returns-2
 returns-2 c =
     let b1 = c .before in
     let b2 = b1 .before in
-    let b3 = b2 .before in
-    let b7 = b3 .before .before .before .before in
-    let b8 = b7 .before in
-    let a = b8 .before .before .before .before .before .before .args in
-    let g = b8 .read-registry .result in
-    let w = b7 .read-credential .result in
+    let b6 = b2 .before .before .before .before in
+    let b7 = b6 .before in
+    let a = b7 .before .before .before .before .before .before .args in
+    let g = b7 .read-registry .result in
+    let w = b6 .read-credential .result in
     let e = now (a .expected) in
     let next = now (a .next) in
     let held = now (a .held) in
-    credential-found e next held (b3 .ingest .result) _ _ (b1 .same-told .result) (c .credential-agrees .result) (b3 .ingest .ensures) (b2 .answered .ensures) (b1 .same-told .ensures) (c .credential-agrees .ensures)
-    ∙ revoke-read e next (now (a .registry)) (now (a .attempt)) g (b8 .read-registry .ensures .0) held w (b7 .read-credential .ensures) (not-false (g .ok && w .ok) (b3 .before .if1 .left)) (b8 .read-registry .ensures .1)
+    credential-found e next held (b2 .ingest .result) _ (b1 .same-report .result) (c .credential-agrees .result) (b2 .ingest .ensures) (b1 .same-report .ensures) (c .credential-agrees .ensures)
+    ∙ revoke-read e next (now (a .registry)) (now (a .attempt)) g (b7 .read-registry .ensures .0) held w (b6 .read-credential .ensures) (not-false (g .ok && w .ok) (b2 .before .if1 .left)) (b7 .read-registry .ensures .1)
 
 pub judge-revoke-spec : {M : Type 1} → statement M
 judge-revoke-spec =
@@ -62,7 +58,6 @@ judge-revoke-spec =
     unread-requires
     returns
     ingest-requires
-    answered-requires
-    same-told-requires
+    same-report-requires
     credential-agrees-requires
     returns-2)

@@ -1,8 +1,13 @@
-use Rattle.folds.specs.Reports.{Report, statusReport, sameReport}
-use Rattle.folds.specs.Judgement.{judgeStatus}
-use mathlib.Core.Path.{ap, _∙_}
+use mathlib.Core.Path.{ap, sym, _∙_}
 use mathlib.Core.Bool.{Bool, true}
+use mathlib.Core.List.{List}
+use Prim.Native.Nat.{ℕ}
+use lib.ListN.{length}
 use denote.Ref.{now}
+use Rattle.laws.specs.Words.{sameList}
+use Rattle.registry_credential.specs.Status.{statusOf}
+use Rattle.host_report.proofs.ReportWrites.{length-status}
+use Rattle.folds.specs.Judgement.{judgeStatus}
 use borrow.Author.Needs.{needs}
 use Rattle.folds.proofs.judge.judge_status.Statement.{statement}
 use Rattle.folds.proofs.judge.judge_status.Tie as tie
@@ -10,20 +15,21 @@ use Rattle.folds.proofs.judge.judge_status.Tie as tie
 status-requires : tie.Need-status-requires
 status-requires c κs = search needs
 
-status-answered-requires : tie.Need-status-answered-requires
-status-answered-requires c κs = search needs
+slice-aggregate-same : tie.Need-slice-aggregate-same
+slice-aggregate-same c =
+    let b1 = c .before in
+    let s = now (b1 .before .before .before .before .args .input) in
+    sym (ap length (b1 .status .ensures .1) ∙ length-status (statusOf s))
 
-same-told-requires : tie.Need-same-told-requires
-same-told-requires c κs = search needs
+same-requires : tie.Need-same-requires
+same-requires c κs = search needs
 
 returns : tie.Need-returns
 unfolding judgeStatus
 returns c =
-    let b1 = c .before in
-    let b2 = b1 .before in
-    let e = now (b2 .before .before .before .args .expected) in
-    ap (λ (b : Bool). record { agrees = b; read = true }) (c .same-told .ensures ∙ ap (λ (t : Report). sameReport t e) (b1 .status-answered .ensures ∙ ap statusReport (b2 .status .ensures)))
+    let b2 = c .before .before in
+    let e = now (b2 .before .before .before .before .args .expected) in
+    ap (λ (b : Bool). record { agrees = b; read = true }) (c .same .ensures ∙ ap (λ (l : List ℕ). sameList l e) (b2 .status .ensures .1))
 
 pub judge-status-spec : {M : Type 1} → statement M
-judge-status-spec =
-    tie.close (tie.spec status-requires status-answered-requires same-told-requires returns)
+judge-status-spec = tie.close (tie.spec status-requires slice-aggregate-same same-requires returns)

@@ -1,7 +1,7 @@
-use Rattle.folds.proofs.RegistryCases.{registry-found}
+use lib.ListN.{replicate}
 use denote.Ref.{now}
 use Rattle.folds.specs.Judgement.{judgeIncept}
-use lib.ListN.{replicate}
+use Rattle.folds.proofs.RegistryCases.{registry-found}
 use borrow.Author.Needs.{needs}
 use Rattle.folds.proofs.registry_case.judge_incept.Statement.{statement}
 use Rattle.folds.proofs.registry_case.judge_incept.Tie as tie
@@ -9,11 +9,8 @@ use Rattle.folds.proofs.registry_case.judge_incept.Tie as tie
 incept-with-evidence-requires : tie.Need-incept-with-evidence-requires
 incept-with-evidence-requires c κs = search needs
 
-answered-requires : tie.Need-answered-requires
-answered-requires c κs = search needs
-
-same-told-requires : tie.Need-same-told-requires
-same-told-requires c κs = search needs
+same-report-requires : tie.Need-same-report-requires
+same-report-requires c κs = search needs
 
 slice-aggregate-registry-agrees : tie.Need-slice-aggregate-registry-agrees
 slice-aggregate-registry-agrees c = search needs
@@ -26,17 +23,15 @@ unfolding judgeIncept
 returns c =
     let b2 = c .before .before in
     let b3 = b2 .before in
-    let b4 = b3 .before in
-    let a = b4 .before .before .before .before .args in
-    registry-found (now (a .expected)) (now (a .next)) (replicate 121 0) (b4 .incept-with-evidence .result) _ _ (b2 .same-told .result) (c .registry-agrees .result) (b4 .incept-with-evidence .ensures .0) (b3 .answered .ensures) (b2 .same-told .ensures) (c .registry-agrees .ensures)
+    let a = b3 .before .before .before .before .args in
+    registry-found (now (a .expected)) (now (a .next)) (replicate 121 0) (b3 .incept-with-evidence .result) _ (b2 .same-report .result) (c .registry-agrees .result) (b3 .incept-with-evidence .ensures .0) (b2 .same-report .ensures) (c .registry-agrees .ensures)
 
 pub judge-incept-spec : {M : Type 1} → statement M
 judge-incept-spec =
     tie.close
     (tie.spec
     incept-with-evidence-requires
-    answered-requires
-    same-told-requires
+    same-report-requires
     slice-aggregate-registry-agrees
     registry-agrees-requires
     returns)

@@ -1,7 +1,7 @@
-use Rattle.folds.proofs.RegistryCases.{registry-found, rotate-unread, rotate-read}
-use denote.Ref.{now}
 use mathlib.Core.Path.{_∙_}
+use denote.Ref.{now}
 use borrow.Author.Tests.{not-true, not-false}
+use Rattle.folds.proofs.RegistryCases.{registry-found, rotate-unread, rotate-read}
 use borrow.Author.Needs.{needs}
 use Rattle.folds.proofs.registry_case.judge_rotate.Statement.{statement}
 use Rattle.folds.proofs.registry_case.judge_rotate.Tie as tie
@@ -22,11 +22,8 @@ returns c =
 ingest-requires : tie.Need-ingest-requires
 ingest-requires c κs = search needs
 
-answered-requires : tie.Need-answered-requires
-answered-requires c κs = search needs
-
-same-told-requires : tie.Need-same-told-requires
-same-told-requires c κs = search needs
+same-report-requires : tie.Need-same-report-requires
+same-report-requires c κs = search needs
 
 registry-agrees-requires : tie.Need-registry-agrees-requires
 registry-agrees-requires c κs = search needs
@@ -35,15 +32,14 @@ returns-2 : tie.Need-returns-2
 returns-2 c =
     let b1 = c .before in
     let b2 = b1 .before in
-    let b3 = b2 .before in
-    let b6 = b3 .before .before .before in
-    let a = b6 .before .before .before .before .before .args in
-    let g = b6 .read-registry .result in
+    let b5 = b2 .before .before .before in
+    let a = b5 .before .before .before .before .before .args in
+    let g = b5 .read-registry .result in
     let e = now (a .expected) in
     let next = now (a .next) in
     let held = now (a .held) in
-    registry-found e next held (b3 .ingest .result) _ _ (b1 .same-told .result) (c .registry-agrees .result) (b3 .ingest .ensures .0) (b2 .answered .ensures) (b1 .same-told .ensures) (c .registry-agrees .ensures)
-    ∙ rotate-read e next held (now (a .attempt)) g (b6 .read-registry .ensures .0) (not-false (g .ok) (b3 .before .if1 .left)) (b6 .read-registry .ensures .1)
+    registry-found e next held (b2 .ingest .result) _ (b1 .same-report .result) (c .registry-agrees .result) (b2 .ingest .ensures .0) (b1 .same-report .ensures) (c .registry-agrees .ensures)
+    ∙ rotate-read e next held (now (a .attempt)) g (b5 .read-registry .ensures .0) (not-false (g .ok) (b2 .before .if1 .left)) (b5 .read-registry .ensures .1)
 
 pub judge-rotate-spec : {M : Type 1} → statement M
 judge-rotate-spec =
@@ -53,7 +49,6 @@ judge-rotate-spec =
     unread-requires
     returns
     ingest-requires
-    answered-requires
-    same-told-requires
+    same-report-requires
     registry-agrees-requires
     returns-2)
