@@ -1,4 +1,6 @@
 // The members after a rotation (docs/RULES.md, "Lists of backers").
+use cesr::primitive::BasicPrefix;
+use cesr::primitive::Matter;
 use events::member_set::Members;
 ghost use mathlib.Core.Path.{_≡_};
 ghost use mathlib.Core.Bool.{cond};
@@ -20,17 +22,20 @@ fn keep_uncut(m: Members, cuts: Members) -> Members
     ensures { λ r. ⌜ view r ≡ survivors (view cuts) (view m) ⌝ }
 {
     let n = m.size();
-    let mut r = Members::empty();
+    let none = BasicPrefix(Matter::none());
+    let mut items = [none; 16];
+    let mut count: usize = 0;
     let mut i: usize = 0;
     while i < n {
-        let p = m.item(i);
+        let p = m.items[i];
         let cut = cuts.contains(p);
         i += 1;
         if !cut {
-            r = r.push(p).members;
+            items[count] = p;
+            count += 1;
         }
     }
-    r
+    Members { items, count }
 }
 
 // a, then b.
@@ -39,13 +44,16 @@ fn join(a: Members, b: Members) -> Members
     ensures { λ r. ⌜ view r ≡ view a ++ view b ⌝ }
 {
     let n = b.size();
-    let mut r = a;
+    let mut items = a.items;
+    let mut count = a.size();
     let mut i: usize = 0;
     while i < n {
-        r = r.push(b.item(i)).members;
+        let p = b.items[i];
+        items[count] = p;
+        count += 1;
         i += 1;
     }
-    r
+    Members { items, count }
 }
 
 // Survivors in their order, then additions in theirs. Where there are more than 16 the current list comes back.
