@@ -3,7 +3,7 @@ mod common;
 
 use common::world::*;
 use jamfell::attempt::{Attempt, Seal, Signature, Source, TelEvent, TelEvidence, TooMany, ATTEMPT_BYTES_MAX};
-use jamfell::state::{ConfigTrait, RegistryState};
+use jamfell::state::{ConfigTrait, RegistryState, REGISTRY_STATE_BYTES_MAX};
 use jamfell::{Ledger, Refusal};
 
 /// Bytes from pieces: a number is one byte, `E5` a said, `B5` a backer, `I` the issuer, `n5` a number of 16 bytes.
@@ -128,6 +128,33 @@ fn states_are_read_again() {
         assert_eq!(RegistryState::from_bytes(&bytes[..size]), None);
     }
     assert_eq!(RegistryState::from_bytes(&[&bytes[..], &[0]].concat()), None);
+}
+
+/// A state with as many traits and backers as there can be, and with one more of either.
+#[test]
+fn limits_of_states() {
+    let head = &state().to_bytes().unwrap()[..119];
+    let lists = |configs: usize, backers: usize| {
+        let backers_list: Vec<u8> = (0..backers).flat_map(|n| *backer(n as u32).as_bytes()).collect();
+        [
+            head,
+            &[configs as u8],
+            &vec![1; configs],
+            &[backers as u8],
+            &backers_list,
+        ]
+        .concat()
+    };
+    let most = RegistryState {
+        configs: vec![ConfigTrait::EstOnly; 8],
+        backers: backers(0, 16),
+        ..state()
+    };
+    assert_eq!(RegistryState::from_bytes(&lists(8, 16)), Some(most.clone()));
+    assert_eq!(most.to_bytes().unwrap(), lists(8, 16));
+    assert_eq!(most.to_bytes().unwrap().len(), REGISTRY_STATE_BYTES_MAX);
+    assert_eq!(RegistryState::from_bytes(&lists(9, 16)), None);
+    assert_eq!(RegistryState::from_bytes(&lists(8, 17)), None);
 }
 
 #[test]

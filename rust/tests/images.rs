@@ -148,6 +148,7 @@ fn an_image_over_any_bytes() {
 fn replacing_a_held_ledger() {
     let mut held = ledger(every_kind());
     let before = held.to_image().unwrap();
+    assert_eq!(Ledger::from_image(b"no image").unwrap_err().refusal, Refusal::Malformed);
     assert_eq!(held.read_image(b"no image").unwrap_err().refusal, Refusal::Malformed);
     assert_eq!(held.to_image().unwrap(), before);
     held.read_image(&[0; 4]).unwrap();
