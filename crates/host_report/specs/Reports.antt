@@ -40,15 +40,15 @@ abbrev pub reportWith : Answer → List ℕ → List ℕ
 reportWith Accepted values = acceptedReport values
 reportWith (Rejected r) values = rejectionReport r
 
--- the ledger's call gives none
+-- the ledger's call gives no values
 abbrev pub answerReport : Answer → List ℕ
 answerReport a = reportWith a []
 
--- a fold over bytes, how many bytes the next state has
+-- a fold over bytes gives how many bytes the next state has
 abbrev pub sizedReport : Answer → ℕ → List ℕ
 sizedReport a size = reportWith a (size ∷ [])
 
--- `status` gives none, and its refusals have no details
+-- `status` gives no values, and its refusals have no details
 abbrev pub errorReport : CredentialError → List ℕ
 errorReport e = reportBytes (errorNumber e) (letterOf (errorDisposition e)) (awaitedOf (errorDisposition e)) []
 
@@ -68,7 +68,7 @@ toadIn (Valid t) = t .0
 toadIn (OutOfRange t n) = 0
 toadIn (Overflow n) = 0
 
--- `exact` gives none, `ample` the toad
+-- `exact` gives no values, `ample` the toad
 abbrev pub exactReport : ToadResult → List ℕ
 exactReport r = reportWith (thresholdAnswer r) []
 
@@ -83,15 +83,15 @@ plainReport number values = cond (eqb number 0) (acceptedReport values) (reportB
 abbrev pub lookedUpReport : LookedUp → List ℕ
 lookedUpReport a = plainReport (a .refusal) (a .standing ∷ [])
 
--- an image that is written, its length
+-- an image that is written gives its length
 abbrev pub writtenReport : Written → List ℕ
 writtenReport a = plainReport (a .number) (a .size ∷ [])
 
--- an image that is read, nothing
+-- an image that is read gives no values
 abbrev pub readReport : ℕ → List ℕ
 readReport number = plainReport number []
 
--- the values in the code
+-- what the code's values stand for
 abbrev pub valuesOf : Values → List ℕ
 valuesOf Nothing = []
 valuesOf (One a) = value a ∷ []
