@@ -141,26 +141,13 @@ impl TelEvidence {
 impl Attempt {
     /// The event alone: no source, no anchoring event, no signatures, and no evidence.
     pub fn new(event: TelEvent) -> Attempt {
-        Attempt {
-            event,
-            source: None,
-            anchor: None,
-            signatures: Vec::new(),
-            evidence: TelEvidence::Missing,
-        }
+        Attempt { event, source: None, anchor: None, signatures: Vec::new(), evidence: TelEvidence::Missing }
     }
 
     /// With this anchoring event in the message, and with it as the source.
     pub fn anchored_by(self, anchor: AnchoringEvent) -> Attempt {
-        let source = Some(Source {
-            sn: anchor.sn,
-            said: anchor.said,
-        });
-        Attempt {
-            source,
-            anchor: Some(anchor),
-            ..self
-        }
+        let source = Some(Source { sn: anchor.sn, said: anchor.said });
+        Attempt { source, anchor: Some(anchor), ..self }
     }
 
     /// With these verdicts.
@@ -188,13 +175,7 @@ impl Attempt {
             out.push(signature.good.into());
             Ok(())
         })?;
-        section(
-            &mut out,
-            "evidence",
-            1,
-            std::slice::from_ref(&self.evidence),
-            |out, evidence| evidence.put(out),
-        )?;
+        section(&mut out, "evidence", 1, std::slice::from_ref(&self.evidence), |out, evidence| evidence.put(out))?;
         Ok(out)
     }
 }

@@ -63,13 +63,8 @@ impl EvidenceKind {
             11 => EvidenceKind::RegistryState,
             12 => EvidenceKind::IssuerState,
             13 => EvidenceKind::KelAnchor,
-            14 => EvidenceKind::PriorEvents {
-                expected_sn: report.value(0),
-            },
-            17 => EvidenceKind::BackerReceipts {
-                valid: report.size(0),
-                required: report.toad(1),
-            },
+            14 => EvidenceKind::PriorEvents { expected_sn: report.value(0) },
+            17 => EvidenceKind::BackerReceipts { valid: report.size(0), required: report.toad(1) },
             20 => EvidenceKind::TelAnchor { sn: report.value(0) },
             other => report.stranger("an evidence kind", other),
         }

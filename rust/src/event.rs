@@ -148,15 +148,7 @@ impl<'a> Parts<'a> {
     /// The primitives of a kind, and nothing else.
     fn of<const N: usize>(kind: u8, primitives: [&'a [u8; PRIMITIVE_BYTES]; N]) -> Parts<'a> {
         let primitives = primitives.to_vec();
-        Parts {
-            kind,
-            primitives,
-            numbers: Vec::new(),
-            configs: &[],
-            backers_or_cuts: &[],
-            additions: &[],
-            seal: None,
-        }
+        Parts { kind, primitives, numbers: Vec::new(), configs: &[], backers_or_cuts: &[], additions: &[], seal: None }
     }
 
     fn put(&self, out: &mut Vec<u8>) -> Result<(), TooMany> {
@@ -208,11 +200,7 @@ impl TelEvent {
             | TelEvent::BackedIssue { credential, .. }
             | TelEvent::BackedRevoke { credential, .. } => credential,
         };
-        Seal::Event {
-            i: Identifier::SelfAddressing(*of),
-            s: self.sn(),
-            d: self.said(),
-        }
+        Seal::Event { i: Identifier::SelfAddressing(*of), s: self.sn(), d: self.said() }
     }
 
     /// The event's bytes: its kind and its sections, as they stand at the start of an attempt. Lists that are too long are refused.
@@ -228,80 +216,27 @@ impl TelEvent {
 
     fn parts(&self) -> Parts<'_> {
         match self {
-            TelEvent::RegistryInception {
-                said,
-                issuer,
-                toad,
-                configs,
-                backers,
-            } => {
+            TelEvent::RegistryInception { said, issuer, toad, configs, backers } => {
                 let parts = Parts::of(1, [said.as_bytes(), issuer.as_bytes()]);
-                Parts {
-                    numbers: vec![(*toad).into()],
-                    configs,
-                    backers_or_cuts: backers,
-                    ..parts
-                }
+                Parts { numbers: vec![(*toad).into()], configs, backers_or_cuts: backers, ..parts }
             }
-            TelEvent::RegistryRotation {
-                said,
-                registry,
-                prior,
-                sn,
-                toad,
-                cuts,
-                additions,
-            } => {
+            TelEvent::RegistryRotation { said, registry, prior, sn, toad, cuts, additions } => {
                 let parts = Parts::of(2, [said.as_bytes(), registry.as_bytes(), prior.as_bytes()]);
-                Parts {
-                    numbers: vec![*sn, (*toad).into()],
-                    backers_or_cuts: cuts,
-                    additions,
-                    ..parts
-                }
+                Parts { numbers: vec![*sn, (*toad).into()], backers_or_cuts: cuts, additions, ..parts }
             }
-            TelEvent::Issue {
-                said,
-                credential,
-                registry,
-            } => Parts::of(3, [said.as_bytes(), credential.as_bytes(), registry.as_bytes()]),
-            TelEvent::Revoke {
-                said,
-                credential,
-                registry,
-                prior,
-            } => Parts::of(
-                4,
-                [
-                    said.as_bytes(),
-                    credential.as_bytes(),
-                    registry.as_bytes(),
-                    prior.as_bytes(),
-                ],
-            ),
-            TelEvent::BackedIssue {
-                said,
-                credential,
-                registry,
-                anchor,
-            } => {
+            TelEvent::Issue { said, credential, registry } => {
+                Parts::of(3, [said.as_bytes(), credential.as_bytes(), registry.as_bytes()])
+            }
+            TelEvent::Revoke { said, credential, registry, prior } => {
+                Parts::of(4, [said.as_bytes(), credential.as_bytes(), registry.as_bytes(), prior.as_bytes()])
+            }
+            TelEvent::BackedIssue { said, credential, registry, anchor } => {
                 let parts = Parts::of(5, [said.as_bytes(), credential.as_bytes(), registry.as_bytes()]);
-                Parts {
-                    seal: Some(anchor),
-                    ..parts
-                }
+                Parts { seal: Some(anchor), ..parts }
             }
-            TelEvent::BackedRevoke {
-                said,
-                credential,
-                prior,
-                anchor,
-            } => {
+            TelEvent::BackedRevoke { said, credential, prior, anchor } => {
                 let parts = Parts::of(6, [said.as_bytes(), credential.as_bytes(), prior.as_bytes()]);
-                Parts {
-                    seal: Some(anchor),
-                    ..parts
-                }
+                Parts { seal: Some(anchor), ..parts }
             }
         }
     }

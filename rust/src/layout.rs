@@ -16,11 +16,7 @@ pub struct TooMany {
 
 impl fmt::Display for TooMany {
     fn fmt(&self, f: &mut fmt::Formatter<'_>) -> fmt::Result {
-        write!(
-            f,
-            "{} {}, and at most {} are allowed",
-            self.count, self.what, self.limit
-        )
+        write!(f, "{} {}, and at most {} are allowed", self.count, self.what, self.limit)
     }
 }
 
@@ -37,13 +33,7 @@ pub(crate) fn section<T>(
     let count = elements.len();
     match u8::try_from(count) {
         Ok(few) if few <= limit => out.push(few),
-        _ => {
-            return Err(TooMany {
-                what,
-                count,
-                limit: limit.into(),
-            })
-        }
+        _ => return Err(TooMany { what, count, limit: limit.into() }),
     }
     elements.iter().try_for_each(|element| put(out, element))
 }

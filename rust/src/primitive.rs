@@ -16,12 +16,7 @@ pub struct WrongLetter {
 
 impl fmt::Display for WrongLetter {
     fn fmt(&self, f: &mut fmt::Formatter<'_>) -> fmt::Result {
-        write!(
-            f,
-            "the code letter {:?} is none of {}",
-            char::from(self.letter),
-            self.allowed
-        )
+        write!(f, "the code letter {:?} is none of {}", char::from(self.letter), self.allowed)
     }
 }
 
@@ -119,10 +114,7 @@ impl TryFrom<[u8; PRIMITIVE_BYTES]> for Identifier {
     fn try_from(bytes: [u8; PRIMITIVE_BYTES]) -> Result<Identifier, WrongLetter> {
         let said = Said::try_from(bytes).map(Identifier::SelfAddressing);
         let basic = || BasicPrefix::try_from(bytes).map(Identifier::Basic);
-        said.or_else(|_| basic()).map_err(|wrong| WrongLetter {
-            allowed: "BDEFGHI",
-            ..wrong
-        })
+        said.or_else(|_| basic()).map_err(|wrong| WrongLetter { allowed: "BDEFGHI", ..wrong })
     }
 }
 

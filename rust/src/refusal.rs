@@ -255,10 +255,7 @@ impl Refused {
     }
 
     pub(crate) fn read(report: &Report) -> Refused {
-        Refused {
-            refusal: Refusal::read(report),
-            disposition: Disposition::read(report),
-        }
+        Refused { refusal: Refusal::read(report), disposition: Disposition::read(report) }
     }
 }
 

@@ -86,16 +86,11 @@ mod tests {
     #[test]
     fn every_evidence_kind_is_read_and_told_again() {
         for kind in [2, 11, 12, 13, 14, 17, 20] {
-            let Disposition::Awaiting(read) = Disposition::read(&report(2, b'W', kind, [5, 6])) else {
-                panic!()
-            };
+            let Disposition::Awaiting(read) = Disposition::read(&report(2, b'W', kind, [5, 6])) else { panic!() };
             assert_eq!(read.number(), kind);
         }
         let read = Disposition::read(&report(27, b'W', 17, [5, 6]));
-        assert_eq!(
-            read,
-            Disposition::Awaiting(EvidenceKind::BackerReceipts { valid: 5, required: 6 })
-        );
+        assert_eq!(read, Disposition::Awaiting(EvidenceKind::BackerReceipts { valid: 5, required: 6 }));
     }
 
     #[test]
@@ -103,13 +98,7 @@ mod tests {
         let of = |number| Refused::read(&report(number, b'T', 0, [1, 2])).refusal;
         assert_eq!(of(16), Refusal::OutOfOrder { expected: 1, actual: 2 });
         assert_eq!(of(23), Refusal::UnresolvedAnchor { sn: 1 });
-        assert_eq!(
-            of(24),
-            Refusal::BackerSet {
-                rule: crate::Rule::DuplicateBacker,
-                at: 2
-            }
-        );
+        assert_eq!(of(24), Refusal::BackerSet { rule: crate::Rule::DuplicateBacker, at: 2 });
         assert_eq!(of(27), Refusal::MissingBackerReceipts { valid: 1, required: 2 });
     }
 

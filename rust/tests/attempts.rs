@@ -23,12 +23,7 @@ fn laid_out(text: &str) -> Vec<u8> {
 
 #[test]
 fn each_event() {
-    let vcp = vcp_of(
-        said(1),
-        2,
-        vec![ConfigTrait::EstOnly, ConfigTrait::DelegateIsDelegator],
-        backers(7, 9),
-    );
+    let vcp = vcp_of(said(1), 2, vec![ConfigTrait::EstOnly, ConfigTrait::DelegateIsDelegator], backers(7, 9));
     let other = bis_of(Seal::Opaque);
     for (event, expected) in [
         (vcp, "1  2 E1 I  1 n2  2 1 6  2 B7 B8  0  0"),
@@ -45,15 +40,7 @@ fn each_event() {
 
 #[test]
 fn each_seal() {
-    let seals = [
-        Seal::Digest,
-        Seal::Root,
-        Seal::Source,
-        Seal::Last,
-        Seal::Back,
-        Seal::Kind,
-        Seal::Opaque,
-    ];
+    let seals = [Seal::Digest, Seal::Root, Seal::Source, Seal::Last, Seal::Back, Seal::Kind, Seal::Opaque];
     for (seal, byte) in seals.into_iter().zip([1, 2, 3, 5, 6, 7, 8]) {
         assert_eq!(bis_of(seal).to_bytes().unwrap().last(), Some(&byte));
     }
@@ -68,27 +55,12 @@ fn behind(attempt: &Attempt) -> Vec<u8> {
 fn what_stands_behind_an_event() {
     let alone = Attempt::new(iss());
     assert_eq!(behind(&alone), laid_out("0  0  0  1 0"));
-    let source = Attempt {
-        source: Some(Source { sn: 4, said: said(7) }),
-        ..alone.clone()
-    };
+    let source = Attempt { source: Some(Source { sn: 4, said: said(7) }), ..alone.clone() };
     assert_eq!(behind(&source), laid_out("1 n4 E7  0  0  1 0"));
     let anchored = alone.clone().anchored_by(key_event(&iss()));
-    assert_eq!(
-        behind(&anchored),
-        laid_out("1 n40 E7  1 I n40 E7  1 4 E3 n0 E4  0  1 0")
-    );
-    let signed = vec![
-        Signature {
-            index: 0x01020304,
-            good: true,
-        },
-        Signature { index: 5, good: false },
-    ];
-    assert_eq!(
-        behind(&alone.clone().with_signatures(signed)),
-        laid_out("0  0  2  1 2 3 4 1  0 0 0 5 0  1 0")
-    );
+    assert_eq!(behind(&anchored), laid_out("1 n40 E7  1 I n40 E7  1 4 E3 n0 E4  0  1 0"));
+    let signed = vec![Signature { index: 0x01020304, good: true }, Signature { index: 5, good: false }];
+    assert_eq!(behind(&alone.clone().with_signatures(signed)), laid_out("0  0  2  1 2 3 4 1  0 0 0 5 0  1 0"));
 }
 
 #[test]
@@ -96,10 +68,7 @@ fn each_evidence() {
     let with = |evidence| behind(&Attempt::new(iss()).with_evidence(evidence));
     assert_eq!(with(TelEvidence::Missing), laid_out("0 0 0  1 0"));
     let prefix = issuer();
-    assert_eq!(
-        with(TelEvidence::Issuer { prefix, anchor: None }),
-        laid_out("0 0 0  1 1 I 0")
-    );
+    assert_eq!(with(TelEvidence::Issuer { prefix, anchor: None }), laid_out("0 0 0  1 1 I 0"));
     let anchor = Some(key_event(&rev()));
     let expected = laid_out("0 0 0  1 1 I 1 I n40 E7  1 4 E3 n1 E5");
     assert_eq!(with(TelEvidence::Issuer { prefix, anchor }), expected);
@@ -136,20 +105,9 @@ fn limits_of_states() {
     let head = &state().to_bytes().unwrap()[..119];
     let lists = |configs: usize, backers: usize| {
         let backers_list: Vec<u8> = (0..backers).flat_map(|n| *backer(n as u32).as_bytes()).collect();
-        [
-            head,
-            &[configs as u8],
-            &vec![1; configs],
-            &[backers as u8],
-            &backers_list,
-        ]
-        .concat()
+        [head, &[configs as u8], &vec![1; configs], &[backers as u8], &backers_list].concat()
     };
-    let most = RegistryState {
-        configs: vec![ConfigTrait::EstOnly; 8],
-        backers: backers(0, 16),
-        ..state()
-    };
+    let most = RegistryState { configs: vec![ConfigTrait::EstOnly; 8], backers: backers(0, 16), ..state() };
     assert_eq!(RegistryState::from_bytes(&lists(8, 16)), Some(most.clone()));
     assert_eq!(most.to_bytes().unwrap(), lists(8, 16));
     assert_eq!(most.to_bytes().unwrap().len(), REGISTRY_STATE_BYTES_MAX);
@@ -174,14 +132,8 @@ fn limits() {
     assert_eq!(signed(65), too_many("signatures", 65, 64));
     let mut anchor = key_event(&iss());
     anchor.seals = vec![Seal::Last; 9];
-    assert_eq!(
-        Attempt::new(iss()).anchored_by(anchor).to_bytes(),
-        too_many("seals", 9, 8)
-    );
-    assert_eq!(
-        signed(65).unwrap_err().to_string(),
-        "65 signatures, and at most 64 are allowed"
-    );
+    assert_eq!(Attempt::new(iss()).anchored_by(anchor).to_bytes(), too_many("seals", 9, 8));
+    assert_eq!(signed(65).unwrap_err().to_string(), "65 signatures, and at most 64 are allowed");
 }
 
 /// A vrt with all that it can have.
@@ -189,24 +141,15 @@ fn longest() -> Attempt {
     let event = vrt_of(1, 1, backers(0, 16), backers(16, 32));
     let mut anchor = key_event(&event);
     anchor.seals = vec![event.seal(); 8];
-    let evidence = TelEvidence::Issuer {
-        prefix: issuer(),
-        anchor: Some(anchor.clone()),
-    };
-    Attempt::new(event)
-        .anchored_by(anchor)
-        .with_signatures(good(64))
-        .with_evidence(evidence)
+    let evidence = TelEvidence::Issuer { prefix: issuer(), anchor: Some(anchor.clone()) };
+    Attempt::new(event).anchored_by(anchor).with_signatures(good(64)).with_evidence(evidence)
 }
 
 #[test]
 fn the_longest_attempt() {
     let bytes = longest().to_bytes().unwrap();
     assert_eq!(bytes.len(), ATTEMPT_BYTES_MAX);
-    assert_eq!(
-        Ledger::new().apply(&bytes).unwrap_err().refusal,
-        Refusal::MissingRegistry
-    );
+    assert_eq!(Ledger::new().apply(&bytes).unwrap_err().refusal, Refusal::MissingRegistry);
     let longer = [&bytes[..], &[0]].concat();
     assert_eq!(Ledger::new().apply(&longer).unwrap_err().refusal, Refusal::Malformed);
 }
@@ -214,22 +157,13 @@ fn the_longest_attempt() {
 /// Each kind with each evidence, with and without its other parts: none is malformed, and one byte less or more is.
 #[test]
 fn nothing_made_here_is_malformed() {
-    let state = RegistryState {
-        configs: vec![ConfigTrait::EstOnly; 8],
-        backers: backers(0, 16),
-        ..state()
-    };
+    let state = RegistryState { configs: vec![ConfigTrait::EstOnly; 8], backers: backers(0, 16), ..state() };
     for event in every_kind() {
         for evidence in [
             TelEvidence::Missing,
-            TelEvidence::Issuer {
-                prefix: said(9).into(),
-                anchor: Some(key_event(&event)),
-            },
+            TelEvidence::Issuer { prefix: said(9).into(), anchor: Some(key_event(&event)) },
             TelEvidence::Backer,
-            TelEvidence::BackerAt {
-                management: state.clone(),
-            },
+            TelEvidence::BackerAt { management: state.clone() },
         ] {
             let alone = Attempt::new(event.clone()).with_evidence(evidence);
             let whole = alone.clone().anchored_by(key_event(&event)).with_signatures(good(64));
@@ -244,22 +178,14 @@ fn nothing_made_here_is_malformed() {
 /// Whether the attempt, one without its last byte, and one with a byte more are malformed.
 fn refusals(bytes: &[u8]) -> (bool, bool, bool) {
     let malformed = |bytes: &[u8]| Ledger::new().apply(bytes).is_err_and(|refused| refused.number() == 1);
-    (
-        malformed(bytes),
-        malformed(&bytes[..bytes.len() - 1]),
-        malformed(&[bytes, &[0]].concat()),
-    )
+    (malformed(bytes), malformed(&bytes[..bytes.len() - 1]), malformed(&[bytes, &[0]].concat()))
 }
 
 /// What the anchoring event of each kind has to say.
 #[test]
 fn each_wanted_seal() {
     let wanted = |event: &TelEvent| event.seal();
-    let seal = |i, s, d| Seal::Event {
-        i: said(i).into(),
-        s,
-        d: said(d),
-    };
+    let seal = |i, s, d| Seal::Event { i: said(i).into(), s, d: said(d) };
     assert_eq!(wanted(&vcp()), seal(REGISTRY, 0, REGISTRY));
     assert_eq!(wanted(&vrt_of(9, 1, vec![], vec![])), seal(REGISTRY, 9, ROTATION));
     assert_eq!(wanted(&iss()), seal(CREDENTIAL, 0, ISSUE));

@@ -15,11 +15,7 @@ const ROOM: usize = jamfell::IMAGE_BYTES_MAX;
 fn attempts() -> Vec<Vec<u8>> {
     let mut attempts: Vec<_> = every_kind().map(bytes).into();
     attempts.push(bytes(vrt_of(7, 1, vec![], vec![])));
-    attempts.extend(
-        runs()
-            .iter()
-            .flat_map(|run| run.attempts().0.into_iter().take(40).map(<[u8]>::to_vec)),
-    );
+    attempts.extend(runs().iter().flat_map(|run| run.attempts().0.into_iter().take(40).map(<[u8]>::to_vec)));
     attempts
 }
 
@@ -138,10 +134,7 @@ fn one_bit_changed() {
                 false => refused += 1,
             }
         }
-        assert!(
-            refused > 100 && sound > 100,
-            "both are met: {refused} refused, {sound} sound"
-        );
+        assert!(refused > 100 && sound > 100, "both are met: {refused} refused, {sound} sound");
     }
 }
 
@@ -164,19 +157,14 @@ fn bytes_that_no_image_shows() {
     host.ledger.lend_copy(&whole);
     let image = host.write_image(ROOM);
     let used = used(2);
-    let between: Vec<_> = used
-        .iter()
-        .copied()
-        .filter(|at| is_free(&mut host, &image, *at))
-        .collect();
+    let between: Vec<_> = used.iter().copied().filter(|at| is_free(&mut host, &image, *at)).collect();
     assert!(between.len() > 100, "{} bytes are free between fields", between.len());
     let behind = (0..LEDGER_BYTES).filter(|at| !used.contains(at));
     let free: Vec<_> = behind.chain(between).collect();
     for _ in 0..500 {
         host.ledger.lend_copy(&whole);
         clean.ledger.lend_copy(&whole);
-        free.iter()
-            .for_each(|at| host.ledger.bytes_mut()[*at] = random.next() as u8);
+        free.iter().for_each(|at| host.ledger.bytes_mut()[*at] = random.next() as u8);
         for _ in 0..8 {
             let attempt = &attempts[random.below(attempts.len())];
             assert_eq!(host.apply(attempt), clean.apply(attempt));
@@ -209,9 +197,7 @@ fn set_counts(host: &mut Host, registries: usize, rows: usize) {
 
 fn block_after(attempts: impl IntoIterator<Item = Vec<u8>>) -> Vec<u8> {
     let mut host = Host::new(Side::Start);
-    attempts
-        .into_iter()
-        .for_each(|attempt| assert_eq!(host.apply(&attempt).number, 0));
+    attempts.into_iter().for_each(|attempt| assert_eq!(host.apply(&attempt).number, 0));
     host.ledger.bytes().to_vec()
 }
 

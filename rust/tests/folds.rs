@@ -44,15 +44,9 @@ fn as_the_ledger_does() {
     assert_eq!(image_of(&[vcp()]), image(&[&registry()], &[]));
     let rotated = state(|next| registry_ingest(&registry(), &bytes(vrt()), next));
     assert_eq!(image_of(&[vcp(), vrt()]), image(&[&rotated], &[]));
-    assert_eq!(
-        image_of(&[backerless(), iss()]),
-        image(&[&without_backers()], &[&issued()])
-    );
+    assert_eq!(image_of(&[backerless(), iss()]), image(&[&without_backers()], &[&issued()]));
     let revoked = state(|next| credential_ingest(&without_backers(), &issued(), &bytes(rev()), next));
-    assert_eq!(
-        image_of(&[backerless(), iss(), rev()]),
-        image(&[&without_backers()], &[&revoked])
-    );
+    assert_eq!(image_of(&[backerless(), iss(), rev()]), image(&[&without_backers()], &[&revoked]));
     let backed = state(|next| credential_incept(&registry(), &bytes(bis()), next));
     let revoked = state(|next| credential_ingest(&registry(), &backed, &bytes(brv()), next));
     assert_eq!(image_of(&[vcp(), bis(), brv()]), image(&[&registry()], &[&revoked]));
@@ -66,12 +60,8 @@ fn states_of_the_folds_as_values() {
     assert_eq!(value.backers, [backer(100), backer(102), backer(103), backer(104)]);
     assert_eq!((value.sn, value.latest, value.toad), (1, said(ROTATION), 3));
     let value = CredentialState::from_bytes(&issued()).unwrap();
-    let expected = CredentialState {
-        registry: said(BACKERLESS),
-        credential: said(CREDENTIAL),
-        sn: 0,
-        head: said(ISSUE),
-    };
+    let expected =
+        CredentialState { registry: said(BACKERLESS), credential: said(CREDENTIAL), sn: 0, head: said(ISSUE) };
     assert_eq!(value, expected);
     assert_eq!(value.to_bytes(), issued());
 }
@@ -102,22 +92,11 @@ fn the_state_of_another() {
     let (registry, without) = (registry(), without_backers());
     let mut other = issued();
     other[34] ^= 1;
-    assert_eq!(
-        host.credential_ingest([&without, &other], &bytes(rev()), 115).0.number,
-        28
-    );
-    assert_eq!(
-        host.credential_ingest([&registry, &issued()], &bytes(rev()), 115)
-            .0
-            .number,
-        10
-    );
+    assert_eq!(host.credential_ingest([&without, &other], &bytes(rev()), 115).0.number, 28);
+    assert_eq!(host.credential_ingest([&registry, &issued()], &bytes(rev()), 115).0.number, 10);
     let mut last = issued();
     last[66..82].fill(0xff);
-    assert_eq!(
-        host.credential_ingest([&without, &last], &bytes(rev()), 115).0.number,
-        15
-    );
+    assert_eq!(host.credential_ingest([&without, &last], &bytes(rev()), 115).0.number, 15);
 }
 
 /// Whether a fold refuses every buffer that is too short for its state and takes every other, up to so many bytes. None is written in
@@ -143,15 +122,9 @@ fn buffers_of_each_length() {
     for side in [Side::Start, Side::End] {
         let mut host = Host::new(side);
         needs(300, &registry, |room| host.registry_incept(&bytes(vcp()), room));
-        needs(300, &rotated, |room| {
-            host.registry_ingest(&registry, &bytes(vrt()), room)
-        });
-        needs(200, &issued, |room| {
-            host.credential_incept(&without, &bytes(iss()), room)
-        });
-        needs(200, &revoked, |room| {
-            host.credential_ingest([&without, &issued], &bytes(rev()), room)
-        });
+        needs(300, &rotated, |room| host.registry_ingest(&registry, &bytes(vrt()), room));
+        needs(200, &issued, |room| host.credential_incept(&without, &bytes(iss()), room));
+        needs(200, &revoked, |room| host.credential_ingest([&without, &issued], &bytes(rev()), room));
     }
 }
 
@@ -164,25 +137,12 @@ fn states_that_are_none() {
         assert_eq!(host.registry_ingest(&registry[..size], &bytes(vrt()), 700).0.number, 1);
     }
     for size in 0..issued.len() {
-        assert_eq!(
-            host.credential_ingest([&without, &issued[..size]], &bytes(rev()), 115)
-                .0
-                .number,
-            1
-        );
+        assert_eq!(host.credential_ingest([&without, &issued[..size]], &bytes(rev()), 115).0.number, 1);
     }
     let longer = |state: &[u8]| [state, &[0]].concat();
     assert_eq!(host.registry_ingest(&longer(&registry), &bytes(vrt()), 700).0.number, 1);
-    assert_eq!(
-        host.credential_incept(&longer(&without), &bytes(iss()), 115).0.number,
-        1
-    );
-    assert_eq!(
-        host.credential_ingest([&without, &longer(&issued)], &bytes(rev()), 115)
-            .0
-            .number,
-        1
-    );
+    assert_eq!(host.credential_incept(&longer(&without), &bytes(iss()), 115).0.number, 1);
+    assert_eq!(host.credential_ingest([&without, &longer(&issued)], &bytes(rev()), 115).0.number, 1);
     for at in [0, 33, 82] {
         let mut other = registry.clone();
         other[at] = b'A';
@@ -210,9 +170,7 @@ fn bytes_at_random() {
         assert_eq!(number == 1, CredentialState::from_bytes(&row).is_none());
         let attempt = damage(&bytes(vcp()));
         let fold = host.registry_incept(&attempt, 700).0;
-        let applied = Ledger::new()
-            .apply(&attempt)
-            .map_or_else(|refused| refused.number(), |()| 0);
+        let applied = Ledger::new().apply(&attempt).map_or_else(|refused| refused.number(), |()| 0);
         if attempt[0] == 1 {
             assert_eq!(fold.number, applied);
         }
@@ -222,29 +180,13 @@ fn bytes_at_random() {
 #[test]
 fn thresholds() {
     let mut host = Host::new(Side::Start);
-    for (toad, backers, number) in [
-        (0, 0, 0),
-        (1, 0, 26),
-        (0, 1, 26),
-        (16, 16, 0),
-        (17, 16, 26),
-        (u32::MAX, usize::MAX, 0),
-        (u32::MAX, 1, 26),
-    ] {
+    for (toad, backers, number) in
+        [(0, 0, 0), (1, 0, 26), (0, 1, 26), (16, 16, 0), (17, 16, 26), (u32::MAX, usize::MAX, 0), (u32::MAX, 1, 26)]
+    {
         assert_eq!(host.exact(toad, backers).number, number);
         assert_eq!(jamfell::exact(toad, backers).is_ok(), number == 0);
     }
-    for (backers, toad) in [
-        (0, 0),
-        (1, 1),
-        (2, 2),
-        (3, 3),
-        (4, 3),
-        (6, 4),
-        (7, 5),
-        (10, 7),
-        (16, 11),
-    ] {
+    for (backers, toad) in [(0, 0), (1, 1), (2, 2), (3, 3), (4, 3), (6, 4), (7, 5), (10, 7), (16, 11)] {
         assert_eq!(host.ample(backers).values, [toad]);
         assert_eq!(jamfell::ample(backers).map(u128::from), Ok(toad));
     }
@@ -263,8 +205,5 @@ fn the_last_toad() {
         }
     }
     assert_eq!(jamfell::ample(fits), Ok(u32::MAX));
-    assert_eq!(
-        jamfell::ample(over).unwrap_err().refusal,
-        jamfell::Refusal::BackerThreshold
-    );
+    assert_eq!(jamfell::ample(over).unwrap_err().refusal, jamfell::Refusal::BackerThreshold);
 }

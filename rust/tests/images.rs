@@ -122,11 +122,7 @@ fn damaged_images() {
     }
     assert!(!is_read(&mut host, &held, &[&image[..], &[0]].concat()));
     assert!(is_read(&mut host, &held, &image));
-    assert!(
-        0 < read && read < image.len(),
-        "both are met: {read} of {} are read",
-        image.len()
-    );
+    assert!(0 < read && read < image.len(), "both are met: {read} of {} are read", image.len());
 }
 
 /// A ledger that is replaced is not judged: an image goes over any bytes.

@@ -15,51 +15,14 @@ fn page(name: &str) -> String {
 /// Every refusal that there is.
 fn refusals() -> Vec<Refusal> {
     use Refusal::*;
-    let mut all = vec![
-        Malformed,
-        MissingRegistry,
-        DuplicateInception,
-        AlreadyIssued,
-        MissingCredentialState,
-    ];
-    all.extend([
-        NotRegistryInception,
-        NotManagementRotation,
-        NotCredentialInception,
-        NotCredentialTransition,
-    ]);
+    let mut all = vec![Malformed, MissingRegistry, DuplicateInception, AlreadyIssued, MissingCredentialState];
+    all.extend([NotRegistryInception, NotManagementRotation, NotCredentialInception, NotCredentialTransition]);
     all.extend([InconsistentRegistry, NoBackersWithBackers, SimpleEventOnBackerRegistry]);
-    all.extend([
-        BackedEventOnBackerlessRegistry,
-        RotationOnBackerlessRegistry,
-        SequenceNumberOverflow,
-    ]);
-    all.extend([
-        OutOfOrder { expected: 1, actual: 2 },
-        PriorDigestMismatch,
-        MissingIssuer,
-        InconsistentIssuer,
-    ]);
-    all.extend([
-        MissingAnchor,
-        InconsistentAnchor,
-        InconsistentManagement,
-        UnresolvedAnchor { sn: 1 },
-    ]);
-    all.extend([
-        BackerSet {
-            rule: Rule::DuplicateCut,
-            at: 1,
-        },
-        TooManyBackers,
-        BackerThreshold,
-    ]);
-    all.extend([
-        MissingBackerReceipts { valid: 1, required: 2 },
-        InconsistentCredential,
-        NoRoom,
-        ShortBuffer,
-    ]);
+    all.extend([BackedEventOnBackerlessRegistry, RotationOnBackerlessRegistry, SequenceNumberOverflow]);
+    all.extend([OutOfOrder { expected: 1, actual: 2 }, PriorDigestMismatch, MissingIssuer, InconsistentIssuer]);
+    all.extend([MissingAnchor, InconsistentAnchor, InconsistentManagement, UnresolvedAnchor { sn: 1 }]);
+    all.extend([BackerSet { rule: Rule::DuplicateCut, at: 1 }, TooManyBackers, BackerThreshold]);
+    all.extend([MissingBackerReceipts { valid: 1, required: 2 }, InconsistentCredential, NoRoom, ShortBuffer]);
     all.extend(errors().map(Credential));
     all
 }
@@ -145,10 +108,7 @@ fn rules_on_backers() {
     ];
     for (rule, words) in rules {
         assert!(page.contains(&format!("\n| {} | {words} |", rule.number())));
-        assert_eq!(
-            header()[&format!("JAMFELL_{}", capitals(&written(rule)))],
-            usize::from(rule.number())
-        );
+        assert_eq!(header()[&format!("JAMFELL_{}", capitals(&written(rule)))], usize::from(rule.number()));
     }
 }
 
@@ -158,11 +118,7 @@ fn capitals(name: &str) -> String {
         true => format!("_{letter}"),
         false => letter.to_uppercase().to_string(),
     };
-    name.chars()
-        .map(letter)
-        .collect::<String>()
-        .trim_start_matches('_')
-        .to_owned()
+    name.chars().map(letter).collect::<String>().trim_start_matches('_').to_owned()
 }
 
 /// The numbers that the C header gives its names.
@@ -171,9 +127,7 @@ fn header() -> BTreeMap<String, usize> {
     let named = |line: &str| {
         let line = define(line).unwrap_or(line.to_owned());
         let (name, number) = line.trim().split_once(" = ")?;
-        let end = number
-            .find(|letter: char| !letter.is_ascii_digit())
-            .unwrap_or(number.len());
+        let end = number.find(|letter: char| !letter.is_ascii_digit()).unwrap_or(number.len());
         Some((name.to_owned(), number[..end].parse().ok()?))
     };
     page("c/jamfell.h").lines().filter_map(named).collect()
@@ -184,22 +138,14 @@ fn numbers_of_the_header() {
     let header = header();
     assert_eq!(header["JAMFELL_ACCEPTED"], 0);
     for refusal in refusals() {
-        let prefix = if refusal.number() > 30 {
-            "JAMFELL_STATUS"
-        } else {
-            "JAMFELL"
-        };
+        let prefix = if refusal.number() > 30 { "JAMFELL_STATUS" } else { "JAMFELL" };
         let name = format!("{prefix}_{}", capitals(refusal.name()));
         assert_eq!(header.get(&name), Some(&usize::from(refusal.number())), "{name}");
     }
     use EvidenceKind::*;
     let kinds = [CredentialTelState, RegistryState, IssuerState, KelAnchor];
     let (valid, required) = (1, 2);
-    let others = [
-        PriorEvents { expected_sn: 1 },
-        BackerReceipts { valid, required },
-        TelAnchor { sn: 1 },
-    ];
+    let others = [PriorEvents { expected_sn: 1 }, BackerReceipts { valid, required }, TelAnchor { sn: 1 }];
     for kind in kinds.into_iter().chain(others) {
         let name = format!("JAMFELL_AWAITS_{}", capitals(&written(kind)));
         assert_eq!(header.get(&name), Some(&usize::from(kind.number())), "{name}");

@@ -65,46 +65,15 @@ fn backers_and_kinds_of_events() {
     let backed = vcp_of(said(50), 1, vec![ConfigTrait::NoBackers], backers(0, 1));
     refuses(&Ledger::new(), sound(backed), Refusal::NoBackersWithBackers, Terminal);
     let (credential, registry) = (said(CREDENTIAL), said(REGISTRY));
-    let simple = TelEvent::Issue {
-        said: said(ISSUE),
-        credential,
-        registry,
-    };
-    refuses(
-        &with_both(),
-        sound(simple),
-        Refusal::SimpleEventOnBackerRegistry,
-        Terminal,
-    );
+    let simple = TelEvent::Issue { said: said(ISSUE), credential, registry };
+    refuses(&with_both(), sound(simple), Refusal::SimpleEventOnBackerRegistry, Terminal);
     let registry = said(BACKERLESS);
-    let backed = TelEvent::BackedIssue {
-        said: said(ISSUE),
-        credential,
-        registry,
-        anchor: first_head(),
-    };
-    refuses(
-        &with_both(),
-        sound(backed),
-        Refusal::BackedEventOnBackerlessRegistry,
-        Terminal,
-    );
+    let backed = TelEvent::BackedIssue { said: said(ISSUE), credential, registry, anchor: first_head() };
+    refuses(&with_both(), sound(backed), Refusal::BackedEventOnBackerlessRegistry, Terminal);
     let (said, prior) = (said(ROTATION), registry);
-    let rotation = TelEvent::RegistryRotation {
-        said,
-        registry,
-        prior,
-        sn: 1,
-        toad: 0,
-        cuts: vec![],
-        additions: vec![],
-    };
-    refuses(
-        &with_both(),
-        sound(rotation),
-        Refusal::RotationOnBackerlessRegistry,
-        Terminal,
-    );
+    let rotation =
+        TelEvent::RegistryRotation { said, registry, prior, sn: 1, toad: 0, cuts: vec![], additions: vec![] };
+    refuses(&with_both(), sound(rotation), Refusal::RotationOnBackerlessRegistry, Terminal);
 }
 
 #[test]
@@ -122,19 +91,9 @@ fn the_order_of_events() {
         Refusal::OutOfOrder { expected: 2, actual: 1 },
         Contested,
     );
-    let TelEvent::RegistryRotation { registry, said: of, .. } = vrt() else {
-        unreachable!()
-    };
+    let TelEvent::RegistryRotation { registry, said: of, .. } = vrt() else { unreachable!() };
     let (cuts, additions) = (vec![], vec![]);
-    let other = TelEvent::RegistryRotation {
-        said: of,
-        registry,
-        prior: said(50),
-        sn: 1,
-        toad: 3,
-        cuts,
-        additions,
-    };
+    let other = TelEvent::RegistryRotation { said: of, registry, prior: said(50), sn: 1, toad: 3, cuts, additions };
     refuses(&with_both(), sound(other), Refusal::PriorDigestMismatch, Terminal);
 }
 
@@ -147,12 +106,7 @@ fn at_sn(sn: u128) -> Ledger {
 
 #[test]
 fn the_last_sn() {
-    refuses(
-        &at_sn(u128::MAX),
-        sound(vrt()),
-        Refusal::SequenceNumberOverflow,
-        Terminal,
-    );
+    refuses(&at_sn(u128::MAX), sound(vrt()), Refusal::SequenceNumberOverflow, Terminal);
 }
 
 /// An sn has 128 bits, in either value.
@@ -161,42 +115,19 @@ fn large_numbers() {
     let (expected, actual) = (0x0102030405060708_090a0b0c0d0e0f10, 0x1112131415161718_191a1b1c1d1e1f20);
     let attempt = |sn| sound(vrt_of(sn, 3, vec![], vec![]));
     let gap = Awaiting(EvidenceKind::PriorEvents { expected_sn: expected });
-    refuses(
-        &at_sn(expected - 1),
-        attempt(actual),
-        Refusal::OutOfOrder { expected, actual },
-        gap,
-    );
+    refuses(&at_sn(expected - 1), attempt(actual), Refusal::OutOfOrder { expected, actual }, gap);
     let (expected, actual) = (actual, expected);
-    refuses(
-        &at_sn(expected - 1),
-        attempt(actual),
-        Refusal::OutOfOrder { expected, actual },
-        Contested,
-    );
+    refuses(&at_sn(expected - 1), attempt(actual), Refusal::OutOfOrder { expected, actual }, Contested);
 }
 
 #[test]
 fn evidence_of_the_issuer() {
     let missing = Awaiting(EvidenceKind::IssuerState);
-    let other = TelEvidence::Issuer {
-        prefix: said(50).into(),
-        anchor: None,
-    };
+    let other = TelEvidence::Issuer { prefix: said(50).into(), anchor: None };
     for event in [vrt(), iss()] {
         let with = |evidence| sound(event.clone()).with_evidence(evidence);
-        refuses(
-            &with_both(),
-            with(TelEvidence::Missing),
-            Refusal::MissingIssuer,
-            missing,
-        );
-        refuses(
-            &with_both(),
-            with(TelEvidence::Backer),
-            Refusal::InconsistentIssuer,
-            Terminal,
-        );
+        refuses(&with_both(), with(TelEvidence::Missing), Refusal::MissingIssuer, missing);
+        refuses(&with_both(), with(TelEvidence::Backer), Refusal::InconsistentIssuer, Terminal);
         refuses(&with_both(), with(other.clone()), Refusal::InconsistentIssuer, Terminal);
     }
 }
@@ -204,46 +135,23 @@ fn evidence_of_the_issuer() {
 #[test]
 fn anchoring_events() {
     let missing = Awaiting(EvidenceKind::KelAnchor);
-    let without_source = Attempt {
-        source: None,
-        ..sound(iss())
-    };
+    let without_source = Attempt { source: None, ..sound(iss()) };
     refuses(&with_both(), without_source, Refusal::MissingAnchor, missing);
-    let without_anchor = Attempt {
-        anchor: None,
-        ..sound(iss())
-    };
+    let without_anchor = Attempt { anchor: None, ..sound(iss()) };
     refuses(&with_both(), without_anchor, Refusal::MissingAnchor, missing);
     let mut anchor = key_event(&iss());
     anchor.seals.push(Seal::Last);
-    refuses(
-        &with_both(),
-        sound(iss()).anchored_by(anchor),
-        Refusal::InconsistentAnchor,
-        Terminal,
-    );
+    refuses(&with_both(), sound(iss()).anchored_by(anchor), Refusal::InconsistentAnchor, Terminal);
     let anchor = key_event(&rev());
-    refuses(
-        &with_both(),
-        sound(iss()).anchored_by(anchor),
-        Refusal::InconsistentAnchor,
-        Terminal,
-    );
+    refuses(&with_both(), sound(iss()).anchored_by(anchor), Refusal::InconsistentAnchor, Terminal);
 }
 
 /// The evidence's anchoring event counts for an iss, and not for a vcp.
 #[test]
 fn the_anchoring_event_in_the_evidence() {
     let with = |event: TelEvent| {
-        let evidence = TelEvidence::Issuer {
-            prefix: issuer(),
-            anchor: Some(key_event(&event)),
-        };
-        Attempt {
-            anchor: None,
-            ..sound(event)
-        }
-        .with_evidence(evidence)
+        let evidence = TelEvidence::Issuer { prefix: issuer(), anchor: Some(key_event(&event)) };
+        Attempt { anchor: None, ..sound(event) }.with_evidence(evidence)
     };
     assert_eq!(apply(&mut with_both(), &with(iss())), Ok(()));
     let missing = Awaiting(EvidenceKind::KelAnchor);
@@ -264,34 +172,11 @@ fn management() -> RegistryState {
 
 #[test]
 fn authority_of_a_backed_event() {
-    let other = Seal::Event {
-        i: said(50).into(),
-        s: 0,
-        d: said(REGISTRY),
-    };
-    refuses(
-        &with_both(),
-        sound(bis_of(other)),
-        Refusal::InconsistentRegistry,
-        Terminal,
-    );
-    refuses(
-        &with_all(),
-        sound(brv_of(Seal::Digest)),
-        Refusal::InconsistentRegistry,
-        Terminal,
-    );
-    refuses(
-        &with_both(),
-        sound(bis_of(Seal::Digest)),
-        Refusal::InconsistentManagement,
-        Terminal,
-    );
-    let ahead = Seal::Event {
-        i: said(REGISTRY).into(),
-        s: 8,
-        d: said(REGISTRY),
-    };
+    let other = Seal::Event { i: said(50).into(), s: 0, d: said(REGISTRY) };
+    refuses(&with_both(), sound(bis_of(other)), Refusal::InconsistentRegistry, Terminal);
+    refuses(&with_all(), sound(brv_of(Seal::Digest)), Refusal::InconsistentRegistry, Terminal);
+    refuses(&with_both(), sound(bis_of(Seal::Digest)), Refusal::InconsistentManagement, Terminal);
+    let ahead = Seal::Event { i: said(REGISTRY).into(), s: 8, d: said(REGISTRY) };
     let unresolved = Refusal::UnresolvedAnchor { sn: 8 };
     let missing = Awaiting(EvidenceKind::TelAnchor { sn: 8 });
     refuses(&with_both(), sound(bis_of(ahead)), unresolved, missing);
@@ -307,12 +192,7 @@ fn lists_of_backers() {
     let twice = |from| [backers(from, from + 2), backers(from, from + 1)].concat();
     let broken = |rule, at| Refusal::BackerSet { rule, at };
     let backed = vcp_of(said(50), 2, vec![], twice(0));
-    refuses(
-        &Ledger::new(),
-        sound(backed),
-        broken(Rule::DuplicateBacker, 2),
-        Terminal,
-    );
+    refuses(&Ledger::new(), sound(backed), broken(Rule::DuplicateBacker, 2), Terminal);
     for (cuts, additions, refusal) in [
         (twice(100), vec![], broken(Rule::DuplicateCut, 2)),
         (vec![], twice(0), broken(Rule::DuplicateAddition, 2)),
@@ -323,12 +203,7 @@ fn lists_of_backers() {
     ] {
         refuses(&with_both(), sound(vrt_of(1, 3, cuts, additions)), refusal, Terminal);
     }
-    refuses(
-        &with_both(),
-        sound(vrt_of(1, 5, vec![], vec![])),
-        Refusal::BackerThreshold,
-        Terminal,
-    );
+    refuses(&with_both(), sound(vrt_of(1, 5, vec![], vec![])), Refusal::BackerThreshold, Terminal);
 }
 
 #[test]
@@ -340,14 +215,7 @@ fn receipts() {
     refuses(&Ledger::new(), signed(good(2)), short(2), missing(2));
     // One index twice, one that no backer has, and one that failed.
     let of = |index, good| Signature { index, good };
-    let two = vec![
-        of(0, true),
-        of(0, true),
-        of(4, true),
-        of(u32::MAX, true),
-        of(3, true),
-        of(2, false),
-    ];
+    let two = vec![of(0, true), of(0, true), of(4, true), of(u32::MAX, true), of(3, true), of(2, false)];
     refuses(&Ledger::new(), signed(two.clone()), short(2), missing(2));
     let three = [two, vec![of(2, true)]].concat();
     assert_eq!(apply(&mut Ledger::new(), &signed(three)), Ok(()));

@@ -24,13 +24,8 @@ fn printed(run: &Run) -> String {
     }
     match broken {
         true => text += "broken\n",
-        false => writeln!(
-            text,
-            "registries {} credentials {}",
-            ledger.registry_count(),
-            ledger.credential_count()
-        )
-        .expect("a string takes all"),
+        false => writeln!(text, "registries {} credentials {}", ledger.registry_count(), ledger.credential_count())
+            .expect("a string takes all"),
     }
     text
 }
@@ -53,10 +48,7 @@ fn changed(before: &[u8], after: &[u8]) -> Vec<String> {
         12936..47752 => format!("row {}", (at - 12936) / 136),
         _ => "row count".to_owned(),
     };
-    let mut places: Vec<_> = (0..before.len())
-        .filter(|at| before[*at] != after[*at])
-        .map(place)
-        .collect();
+    let mut places: Vec<_> = (0..before.len()).filter(|at| before[*at] != after[*at]).map(place).collect();
     places.dedup();
     places
 }
@@ -85,11 +77,7 @@ fn an_attempt_changes_what_it_names() {
                 continue;
             }
             let places = changed(&before, host.ledger.bytes());
-            assert!(
-                may_change(attempt[0], registries, rows, &places),
-                "{}: {places:?}",
-                run.name
-            );
+            assert!(may_change(attempt[0], registries, rows, &places), "{}: {places:?}", run.name);
             registries += usize::from(attempt[0] == 1);
             rows += usize::from(attempt[0] == 3 || attempt[0] == 5);
         }

@@ -22,12 +22,7 @@ fn registry_state() -> RegistryState {
 }
 
 fn credential_state() -> CredentialState {
-    CredentialState {
-        registry: said(REGISTRY),
-        credential: said(CREDENTIAL),
-        sn: 0,
-        head: said(ISSUE),
-    }
+    CredentialState { registry: said(REGISTRY), credential: said(CREDENTIAL), sn: 0, head: said(ISSUE) }
 }
 
 /// A credential that stands. Its input is as long as one can be.
@@ -45,10 +40,7 @@ fn sound() -> StatusInput {
 #[track_caller]
 fn refuses(input: StatusInput, error: CredentialError, disposition: Disposition) {
     let refusal = Refusal::Credential(error);
-    assert_eq!(
-        status(&input.to_bytes().unwrap()),
-        Err(Refused { refusal, disposition })
-    );
+    assert_eq!(status(&input.to_bytes().unwrap()), Err(Refused { refusal, disposition }));
     assert_eq!(refusal.number(), error.number());
 }
 
@@ -57,81 +49,22 @@ fn each_answer() {
     use CredentialError::*;
     assert_eq!(status(&sound().to_bytes().unwrap()), Ok(()));
     let awaits = Awaiting;
-    refuses(
-        StatusInput {
-            registry_state: None,
-            ..sound()
-        },
-        MissingRegistry,
-        awaits(EvidenceKind::RegistryState),
-    );
-    let without = StatusInput {
-        credential_state: None,
-        ..sound()
-    };
-    refuses(
-        without,
-        MissingCredentialState,
-        awaits(EvidenceKind::CredentialTelState),
-    );
-    refuses(
-        StatusInput {
-            issuer_state: None,
-            ..sound()
-        },
-        MissingIssuerState,
-        awaits(EvidenceKind::IssuerState),
-    );
+    refuses(StatusInput { registry_state: None, ..sound() }, MissingRegistry, awaits(EvidenceKind::RegistryState));
+    let without = StatusInput { credential_state: None, ..sound() };
+    refuses(without, MissingCredentialState, awaits(EvidenceKind::CredentialTelState));
+    refuses(StatusInput { issuer_state: None, ..sound() }, MissingIssuerState, awaits(EvidenceKind::IssuerState));
     for registry in [RegistryReference::None, RegistryReference::Block] {
         refuses(StatusInput { registry, ..sound() }, MissingRegistryReference, Terminal);
     }
     let registry = RegistryReference::Said(said(50));
     refuses(StatusInput { registry, ..sound() }, RegistryMismatch, Terminal);
-    refuses(
-        StatusInput {
-            issuer: said(50).into(),
-            ..sound()
-        },
-        IssuerMismatch,
-        Terminal,
-    );
-    refuses(
-        StatusInput {
-            issuer_state: Some(said(50).into()),
-            ..sound()
-        },
-        IssuerStateMismatch,
-        Terminal,
-    );
-    let with = |state| StatusInput {
-        credential_state: Some(state),
-        ..sound()
-    };
-    refuses(
-        with(CredentialState {
-            registry: said(50),
-            ..credential_state()
-        }),
-        CredentialStateMismatch,
-        Terminal,
-    );
-    refuses(
-        with(CredentialState {
-            credential: said(50),
-            ..credential_state()
-        }),
-        CredentialStateMismatch,
-        Terminal,
-    );
+    refuses(StatusInput { issuer: said(50).into(), ..sound() }, IssuerMismatch, Terminal);
+    refuses(StatusInput { issuer_state: Some(said(50).into()), ..sound() }, IssuerStateMismatch, Terminal);
+    let with = |state| StatusInput { credential_state: Some(state), ..sound() };
+    refuses(with(CredentialState { registry: said(50), ..credential_state() }), CredentialStateMismatch, Terminal);
+    refuses(with(CredentialState { credential: said(50), ..credential_state() }), CredentialStateMismatch, Terminal);
     for sn in [1, 2, u128::MAX] {
-        refuses(
-            with(CredentialState {
-                sn,
-                ..credential_state()
-            }),
-            Revoked,
-            Terminal,
-        );
+        refuses(with(CredentialState { sn, ..credential_state() }), Revoked, Terminal);
     }
 }
 
@@ -151,16 +84,7 @@ fn inputs_of_each_length() {
 
 #[test]
 fn in_words() {
-    let revoked = StatusInput {
-        credential_state: Some(CredentialState {
-            sn: 1,
-            ..credential_state()
-        }),
-        ..sound()
-    };
+    let revoked = StatusInput { credential_state: Some(CredentialState { sn: 1, ..credential_state() }), ..sound() };
     let refused = status(&revoked.to_bytes().unwrap()).unwrap_err();
-    assert_eq!(
-        refused.to_string(),
-        "39 Revoked: the credential is revoked; it is never acceptable"
-    );
+    assert_eq!(refused.to_string(), "39 Revoked: the credential is revoked; it is never acceptable");
 }

@@ -32,10 +32,7 @@ struct Van {
 impl Van {
     fn new(count: usize) -> Result<Van, Failure> {
         let issuer = BasicPrefix::new(b'D', KeyPair::new().public)?.into();
-        Ok(Van {
-            issuer,
-            backers: (0..count).map(|_| KeyPair::new()).collect(),
-        })
+        Ok(Van { issuer, backers: (0..count).map(|_| KeyPair::new()).collect() })
     }
 
     fn prefixes(&self) -> Result<Vec<BasicPrefix>, Failure> {
@@ -46,10 +43,7 @@ impl Van {
     /// The receipts of some backers for an event.
     fn receipts(&self, event: &TelEvent, indices: &[usize]) -> Result<Vec<Receipt>, Failure> {
         let bytes = event.to_bytes()?;
-        let sign = |&index: &usize| Receipt {
-            index,
-            signature: self.backers[index].sign(&bytes),
-        };
+        let sign = |&index: &usize| Receipt { index, signature: self.backers[index].sign(&bytes) };
         Ok(indices.iter().map(sign).collect())
     }
 
@@ -59,10 +53,7 @@ impl Van {
         let judge = |receipt: &Receipt| {
             let backer = self.backers.get(receipt.index);
             let good = backer.is_some_and(|backer| sodium::verify(&receipt.signature, &bytes, &backer.public));
-            Ok(Signature {
-                index: receipt.index.try_into()?,
-                good,
-            })
+            Ok(Signature { index: receipt.index.try_into()?, good })
         };
         receipts.iter().map(judge).collect()
     }
@@ -70,12 +61,7 @@ impl Van {
     /// The event of the issuer's key log that anchors the event.
     fn key_event(&self, event: &TelEvent) -> Result<AnchoringEvent, Failure> {
         let said = Said::new(b'F', sodium::digest(event.said().as_bytes()))?;
-        Ok(AnchoringEvent {
-            prefix: self.issuer,
-            sn: 1,
-            said,
-            seals: vec![event.seal()],
-        })
+        Ok(AnchoringEvent { prefix: self.issuer, sn: 1, said, seals: vec![event.seal()] })
     }
 
     /// Verifies the receipts, hands the verdicts over, and says what came of it.
@@ -88,10 +74,7 @@ impl Van {
     ) -> Result<Result<(), Refused>, Failure> {
         let verdicts = self.verdicts(event, receipts)?;
         let evidence = match event {
-            TelEvent::RegistryInception { .. } => TelEvidence::Issuer {
-                prefix: self.issuer,
-                anchor: None,
-            },
+            TelEvent::RegistryInception { .. } => TelEvidence::Issuer { prefix: self.issuer, anchor: None },
             _ => TelEvidence::Backer,
         };
         let attempt = Attempt::new(event.clone())
@@ -101,11 +84,7 @@ impl Van {
         let answer = ledger.apply(&attempt.to_bytes()?);
         println!("{what}");
         for verdict in verdicts {
-            println!(
-                "    receipt of backer {}: {}",
-                verdict.index,
-                if verdict.good { "good" } else { "failed" }
-            );
+            println!("    receipt of backer {}: {}", verdict.index, if verdict.good { "good" } else { "failed" });
         }
         match &answer {
             Ok(()) => println!("    accepted"),
@@ -124,10 +103,7 @@ fn named(event: impl Fn(Said) -> TelEvent) -> Result<TelEvent, Failure> {
 /// Three receipts are needed, and one of three is not good: two count, and a third is awaited.
 fn expect_27(answer: Result<(), Refused>) {
     let refused = answer.expect_err("a forged receipt does not count");
-    assert_eq!(
-        refused.refusal,
-        Refusal::MissingBackerReceipts { valid: 2, required: 3 }
-    );
+    assert_eq!(refused.refusal, Refusal::MissingBackerReceipts { valid: 2, required: 3 });
     let awaited = EvidenceKind::BackerReceipts { valid: 2, required: 3 };
     assert_eq!(refused.disposition, Disposition::Awaiting(awaited));
 }
@@ -137,10 +113,7 @@ fn forgeries(van: &Van, event: &TelEvent, other: &TelEvent) -> Result<[(&'static
     let bytes = event.to_bytes()?;
     let mut changed = van.receipts(event, &[2])?[0];
     changed.signature[5] ^= 1;
-    let stranger = Receipt {
-        index: 2,
-        signature: KeyPair::new().sign(&bytes),
-    };
+    let stranger = Receipt { index: 2, signature: KeyPair::new().sign(&bytes) };
     let replayed = van.receipts(other, &[2])?[0];
     Ok([
         ("bis, with a receipt that has one bit changed", changed),
@@ -155,60 +128,26 @@ fn main() -> Result<(), Failure> {
     let (issuer, backers, toad) = (van.issuer, van.prefixes()?, ample(4)?);
     let mut ledger = Ledger::new();
 
-    let vcp = named(|said| TelEvent::RegistryInception {
-        said,
-        issuer,
-        toad,
-        configs: vec![],
-        backers: backers.clone(),
-    })?;
-    van.send(
-        &mut ledger,
-        "vcp: a registry with 4 backers",
-        &vcp,
-        &van.receipts(&vcp, &[0, 1, 2, 3])?,
-    )??;
+    let vcp =
+        named(|said| TelEvent::RegistryInception { said, issuer, toad, configs: vec![], backers: backers.clone() })?;
+    van.send(&mut ledger, "vcp: a registry with 4 backers", &vcp, &van.receipts(&vcp, &[0, 1, 2, 3])?)??;
 
     let registry = vcp.said();
     let credential = Said::new(b'F', sodium::digest(b"sewer survey, manhole 17 to 18"))?;
     let key = Key { registry, credential };
-    let anchor = Seal::Event {
-        i: registry.into(),
-        s: 0,
-        d: registry,
-    };
-    let bis = named(|said| TelEvent::BackedIssue {
-        said,
-        credential,
-        registry,
-        anchor,
-    })?;
+    let anchor = Seal::Event { i: registry.into(), s: 0, d: registry };
+    let bis = named(|said| TelEvent::BackedIssue { said, credential, registry, anchor })?;
     for (what, forged) in forgeries(&van, &bis, &vcp)? {
         let mut receipts = van.receipts(&bis, &[0, 1])?;
         receipts.push(forged);
         expect_27(van.send(&mut ledger, what, &bis, &receipts)?);
         assert_eq!(ledger.standing(&key)?, Standing::Unknown);
     }
-    van.send(
-        &mut ledger,
-        "bis, when a third receipt has come",
-        &bis,
-        &van.receipts(&bis, &[0, 1, 3])?,
-    )??;
+    van.send(&mut ledger, "bis, when a third receipt has come", &bis, &van.receipts(&bis, &[0, 1, 3])?)??;
     assert_eq!(ledger.standing(&key)?, Standing::Issued);
 
-    let brv = named(|said| TelEvent::BackedRevoke {
-        said,
-        credential,
-        prior: bis.said(),
-        anchor,
-    })?;
-    van.send(
-        &mut ledger,
-        "brv: the credential is revoked",
-        &brv,
-        &van.receipts(&brv, &[1, 2, 3])?,
-    )??;
+    let brv = named(|said| TelEvent::BackedRevoke { said, credential, prior: bis.said(), anchor })?;
+    van.send(&mut ledger, "brv: the credential is revoked", &brv, &van.receipts(&brv, &[1, 2, 3])?)??;
     let kept = Ledger::from_image(&ledger.to_image()?)?;
     assert_eq!(kept.standing(&key)?, Standing::Revoked);
     println!("as expected");

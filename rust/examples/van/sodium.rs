@@ -42,10 +42,7 @@ pub fn init() {
 
 impl KeyPair {
     pub fn new() -> KeyPair {
-        let mut pair = KeyPair {
-            public: [0; 32],
-            secret: [0; 64],
-        };
+        let mut pair = KeyPair { public: [0; 32], secret: [0; 64] };
         // SAFETY: libsodium's public keys have 32 bytes, and its secret keys 64.
         let failed = unsafe { crypto_sign_keypair(pair.public.as_mut_ptr(), pair.secret.as_mut_ptr()) };
         assert_eq!(failed, 0);
@@ -56,15 +53,8 @@ impl KeyPair {
         let mut signature = [0; 64];
         let (start, size) = (message.as_ptr(), message.len() as c_ulonglong);
         // SAFETY: a signature has 64 bytes, and its length need not be written.
-        let failed = unsafe {
-            crypto_sign_detached(
-                signature.as_mut_ptr(),
-                ptr::null_mut(),
-                start,
-                size,
-                self.secret.as_ptr(),
-            )
-        };
+        let failed =
+            unsafe { crypto_sign_detached(signature.as_mut_ptr(), ptr::null_mut(), start, size, self.secret.as_ptr()) };
         assert_eq!(failed, 0);
         signature
     }
@@ -81,14 +71,7 @@ pub fn digest(message: &[u8]) -> [u8; 32] {
     let mut out = [0; 32];
     // SAFETY: a digest may have 32 bytes, and there need not be a key.
     let failed = unsafe {
-        crypto_generichash(
-            out.as_mut_ptr(),
-            32,
-            message.as_ptr(),
-            message.len() as c_ulonglong,
-            ptr::null(),
-            0,
-        )
+        crypto_generichash(out.as_mut_ptr(), 32, message.as_ptr(), message.len() as c_ulonglong, ptr::null(), 0)
     };
     assert_eq!(failed, 0);
     out

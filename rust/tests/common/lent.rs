@@ -42,12 +42,7 @@ impl Lent {
             assert_eq!(mprotect(map.add(PAGE).cast(), room, READ_AND_WRITE), 0);
             map
         };
-        let mut lent = Lent {
-            map,
-            room,
-            side,
-            size: 0,
-        };
+        let mut lent = Lent { map, room, side, size: 0 };
         lent.opened_mut().fill(GUARD);
         lent
     }
@@ -97,10 +92,7 @@ impl Lent {
     /// Whether the bytes beside those that are lent are as they were.
     pub fn is_guarded(&self) -> bool {
         let (range, opened) = (self.range(), self.opened());
-        opened[..range.start]
-            .iter()
-            .chain(&opened[range.end..])
-            .all(|byte| *byte == GUARD)
+        opened[..range.start].iter().chain(&opened[range.end..]).all(|byte| *byte == GUARD)
     }
 }
 

@@ -75,56 +75,44 @@ impl Host {
     pub fn apply(&mut self, attempt: &[u8]) -> Answer {
         let (at, size) = self.input(0, attempt);
         // SAFETY: in this and the other calls all that is handed over is lent, apart from each other.
-        self.call(0, |block, report| unsafe {
-            sys::jamfell_apply(block, at, size, report)
-        })
+        self.call(0, |block, report| unsafe { sys::jamfell_apply(block, at, size, report) })
     }
 
     pub fn look_up(&mut self, registry: &[u8], credential: &[u8]) -> Answer {
         let ((r, r_size), (c, c_size)) = (self.input(0, registry), self.input(1, credential));
-        self.call(1, |block, report| unsafe {
-            sys::jamfell_look_up(block, r, r_size, c, c_size, report)
-        })
+        self.call(1, |block, report| unsafe { sys::jamfell_look_up(block, r, r_size, c, c_size, report) })
     }
 
     /// The answer, and the buffer after the call.
     pub fn write_image(&mut self, room: usize) -> (Answer, Vec<u8>) {
         let (out, size) = self.out(room);
-        let answer = self.call(1, |block, report| unsafe {
-            sys::jamfell_write_image(block, out, size, report)
-        });
+        let answer = self.call(1, |block, report| unsafe { sys::jamfell_write_image(block, out, size, report) });
         (answer, self.out.bytes().to_vec())
     }
 
     pub fn read_image(&mut self, image: &[u8]) -> Answer {
         let (at, size) = self.input(0, image);
-        self.call(0, |block, report| unsafe {
-            sys::jamfell_read_image(block, at, size, report)
-        })
+        self.call(0, |block, report| unsafe { sys::jamfell_read_image(block, at, size, report) })
     }
 
     pub fn registry_incept(&mut self, attempt: &[u8], room: usize) -> (Answer, Vec<u8>) {
         let ((at, size), (out, out_size)) = (self.input(0, attempt), self.out(room));
-        let answer = self.call(1, |_, report| unsafe {
-            sys::jamfell_registry_incept(at, size, out, out_size, report)
-        });
+        let answer = self.call(1, |_, report| unsafe { sys::jamfell_registry_incept(at, size, out, out_size, report) });
         (answer, self.out.bytes().to_vec())
     }
 
     pub fn registry_ingest(&mut self, state: &[u8], attempt: &[u8], room: usize) -> (Answer, Vec<u8>) {
         let ((s, s_size), (at, size), (out, out_size)) = (self.input(1, state), self.input(0, attempt), self.out(room));
-        let answer = self.call(1, |_, report| unsafe {
-            sys::jamfell_registry_ingest(s, s_size, at, size, out, out_size, report)
-        });
+        let answer = self
+            .call(1, |_, report| unsafe { sys::jamfell_registry_ingest(s, s_size, at, size, out, out_size, report) });
         (answer, self.out.bytes().to_vec())
     }
 
     pub fn credential_incept(&mut self, registry: &[u8], attempt: &[u8], room: usize) -> (Answer, Vec<u8>) {
         let ((r, r_size), (at, size), (out, out_size)) =
             (self.input(1, registry), self.input(0, attempt), self.out(room));
-        let answer = self.call(1, |_, report| unsafe {
-            sys::jamfell_credential_incept(r, r_size, at, size, out, out_size, report)
-        });
+        let answer = self
+            .call(1, |_, report| unsafe { sys::jamfell_credential_incept(r, r_size, at, size, out, out_size, report) });
         (answer, self.out.bytes().to_vec())
     }
 
@@ -174,11 +162,7 @@ fn taken_apart(report: &[u8], accepted: usize) -> Answer {
     let value = |at: usize| u128::from_be_bytes(report[at..at + 16].try_into().unwrap());
     let values = [value(4), value(20)];
     let (number, letter, awaited, count) = (report[0], char::from(report[1]), report[2], usize::from(report[3]));
-    assert_eq!(
-        (letter, awaited, count),
-        expected(number, &values, accepted),
-        "number {number}"
-    );
+    assert_eq!((letter, awaited, count), expected(number, &values, accepted), "number {number}");
     assert!(values[count..].iter().all(|value| *value == 0));
     match number {
         16 => assert_ne!(values[0], values[1]),
@@ -186,10 +170,5 @@ fn taken_apart(report: &[u8], accepted: usize) -> Answer {
         27 => assert!(values[0] < values[1] && values[0] <= 16),
         _ => (),
     }
-    Answer {
-        number,
-        letter,
-        awaited,
-        values: values[..count].to_vec(),
-    }
+    Answer { number, letter, awaited, values: values[..count].to_vec() }
 }

@@ -11,10 +11,7 @@ pub struct Run {
 /// All of them, by name.
 pub fn runs() -> Vec<Run> {
     let folder = Path::new(env!("CARGO_MANIFEST_DIR")).join("../tests/attempts");
-    let mut paths: Vec<_> = fs::read_dir(folder)
-        .unwrap()
-        .map(|entry| entry.unwrap().path())
-        .collect();
+    let mut paths: Vec<_> = fs::read_dir(folder).unwrap().map(|entry| entry.unwrap().path()).collect();
     paths.retain(|path| path.extension().is_some_and(|extension| extension == "bin"));
     paths.sort();
     let run = |path: &std::path::PathBuf| Run {

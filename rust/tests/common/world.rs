@@ -42,13 +42,7 @@ pub fn vcp() -> TelEvent {
 }
 
 pub fn vcp_of(said: Said, toad: u32, configs: Vec<ConfigTrait>, backers: Vec<BasicPrefix>) -> TelEvent {
-    TelEvent::RegistryInception {
-        said,
-        issuer: issuer(),
-        toad,
-        configs,
-        backers,
-    }
+    TelEvent::RegistryInception { said, issuer: issuer(), toad, configs, backers }
 }
 
 pub fn backerless() -> TelEvent {
@@ -62,42 +56,21 @@ pub fn vrt() -> TelEvent {
 
 pub fn vrt_of(sn: u128, toad: u32, cuts: Vec<BasicPrefix>, additions: Vec<BasicPrefix>) -> TelEvent {
     let registry = said(REGISTRY);
-    TelEvent::RegistryRotation {
-        said: said(ROTATION),
-        registry,
-        prior: registry,
-        sn,
-        toad,
-        cuts,
-        additions,
-    }
+    TelEvent::RegistryRotation { said: said(ROTATION), registry, prior: registry, sn, toad, cuts, additions }
 }
 
 pub fn iss() -> TelEvent {
-    TelEvent::Issue {
-        said: said(ISSUE),
-        credential: said(CREDENTIAL),
-        registry: said(BACKERLESS),
-    }
+    TelEvent::Issue { said: said(ISSUE), credential: said(CREDENTIAL), registry: said(BACKERLESS) }
 }
 
 pub fn rev() -> TelEvent {
     let (credential, registry) = (said(CREDENTIAL), said(BACKERLESS));
-    TelEvent::Revoke {
-        said: said(REVOCATION),
-        credential,
-        registry,
-        prior: said(ISSUE),
-    }
+    TelEvent::Revoke { said: said(REVOCATION), credential, registry, prior: said(ISSUE) }
 }
 
 /// The seal of the registry's vcp.
 pub fn first_head() -> Seal {
-    Seal::Event {
-        i: said(REGISTRY).into(),
-        s: 0,
-        d: said(REGISTRY),
-    }
+    Seal::Event { i: said(REGISTRY).into(), s: 0, d: said(REGISTRY) }
 }
 
 pub fn bis() -> TelEvent {
@@ -105,12 +78,7 @@ pub fn bis() -> TelEvent {
 }
 
 pub fn bis_of(anchor: Seal) -> TelEvent {
-    TelEvent::BackedIssue {
-        said: said(ISSUE),
-        credential: said(CREDENTIAL),
-        registry: said(REGISTRY),
-        anchor,
-    }
+    TelEvent::BackedIssue { said: said(ISSUE), credential: said(CREDENTIAL), registry: said(REGISTRY), anchor }
 }
 
 pub fn brv() -> TelEvent {
@@ -118,12 +86,7 @@ pub fn brv() -> TelEvent {
 }
 
 pub fn brv_of(anchor: Seal) -> TelEvent {
-    TelEvent::BackedRevoke {
-        said: said(REVOCATION),
-        credential: said(CREDENTIAL),
-        prior: said(ISSUE),
-        anchor,
-    }
+    TelEvent::BackedRevoke { said: said(REVOCATION), credential: said(CREDENTIAL), prior: said(ISSUE), anchor }
 }
 
 /// One of each kind, in an order in which all are accepted.
@@ -132,12 +95,7 @@ pub fn every_kind() -> [TelEvent; 7] {
 }
 
 pub fn key_event(event: &TelEvent) -> AnchoringEvent {
-    AnchoringEvent {
-        prefix: issuer(),
-        sn: 40,
-        said: said(KEY_EVENT),
-        seals: vec![event.seal()],
-    }
+    AnchoringEvent { prefix: issuer(), sn: 40, said: said(KEY_EVENT), seals: vec![event.seal()] }
 }
 
 /// Good signatures of the first so many backers.
@@ -149,16 +107,10 @@ pub fn good(count: u32) -> Vec<Signature> {
 pub fn sound(event: TelEvent) -> Attempt {
     let evidence = match event {
         TelEvent::BackedIssue { .. } | TelEvent::BackedRevoke { .. } => TelEvidence::Backer,
-        _ => TelEvidence::Issuer {
-            prefix: issuer(),
-            anchor: None,
-        },
+        _ => TelEvidence::Issuer { prefix: issuer(), anchor: None },
     };
     let anchor = key_event(&event);
-    Attempt::new(event)
-        .anchored_by(anchor)
-        .with_signatures(good(16))
-        .with_evidence(evidence)
+    Attempt::new(event).anchored_by(anchor).with_signatures(good(16)).with_evidence(evidence)
 }
 
 pub fn bytes(event: TelEvent) -> Vec<u8> {
@@ -168,9 +120,7 @@ pub fn bytes(event: TelEvent) -> Vec<u8> {
 /// A ledger that took these in.
 pub fn ledger(events: impl IntoIterator<Item = TelEvent>) -> Ledger {
     let mut ledger = Ledger::new();
-    events
-        .into_iter()
-        .for_each(|event| ledger.apply(&bytes(event)).unwrap());
+    events.into_iter().for_each(|event| ledger.apply(&bytes(event)).unwrap());
     ledger
 }
 
@@ -178,25 +128,14 @@ pub fn ledger(events: impl IntoIterator<Item = TelEvent>) -> Ledger {
 /// under the last, every third of which is revoked.
 pub fn filling() -> Vec<Vec<u8>> {
     let configs = || vec![ConfigTrait::EstOnly; 8];
-    let mut attempts: Vec<_> = (1000..1015)
-        .map(|id| bytes(vcp_of(said(id), 11, configs(), backers(0, 16))))
-        .collect();
+    let mut attempts: Vec<_> = (1000..1015).map(|id| bytes(vcp_of(said(id), 11, configs(), backers(0, 16)))).collect();
     attempts.push(bytes(backerless()));
     for number in 0..256 {
         let Key { registry, credential } = full_key(number);
         let issue = said(3000 + number);
-        attempts.push(bytes(TelEvent::Issue {
-            said: issue,
-            credential,
-            registry,
-        }));
+        attempts.push(bytes(TelEvent::Issue { said: issue, credential, registry }));
         if number % 3 == 0 {
-            attempts.push(bytes(TelEvent::Revoke {
-                said: said(4000 + number),
-                credential,
-                registry,
-                prior: issue,
-            }));
+            attempts.push(bytes(TelEvent::Revoke { said: said(4000 + number), credential, registry, prior: issue }));
         }
     }
     attempts
@@ -204,8 +143,5 @@ pub fn filling() -> Vec<Vec<u8>> {
 
 /// The key of a credential of the ledger that is full.
 pub fn full_key(number: u32) -> Key {
-    Key {
-        registry: said(BACKERLESS),
-        credential: said(2000 + number),
-    }
+    Key { registry: said(BACKERLESS), credential: said(2000 + number) }
 }
