@@ -160,7 +160,14 @@ REFUSALS = {
             "every other check has passed, and the ledger already holds 16 registries (vcp) or 256 credentials (iss, "
             "bis)",
         ),
-        Refusal(30, "ShortBuffer (added)", "T", 0, (), "the buffer is shorter than the image, or than the next state of a fold over bytes (\"Host's calls\")"),
+        Refusal(
+            30,
+            "ShortBuffer (added)",
+            "T",
+            0,
+            (),
+            'the buffer is shorter than the image, or than the next state of a fold over bytes ("Host\'s calls")',
+        ),
         Refusal(31, "MissingRegistry", "W", 11, (), "there is no registry state"),
         Refusal(32, "MissingCredentialState", "W", 2, (), "there is no credential state"),
         Refusal(33, "MissingIssuerState", "W", 12, (), "there is no issuer prefix"),
