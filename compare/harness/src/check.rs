@@ -64,15 +64,10 @@ const NUMBERS: &[(&str, &[u8])] = &[
     ("status", &[0, 1, 31, 32, 33, 34, 35, 36, 37, 38, 39]),
     ("exact", &[0, 26]),
     ("ample", &[0, 26]),
-    #[cfg(feature = "ledger")]
     ("apply", &[0, 1, 2, 3, 4, 5, 10, 11, 12, 13, 14, 15, 16, 17, 18, 19, 20, 21, 22, 23, 25, 26, 27, 29]),
-    #[cfg(feature = "ledger")]
     ("look_up", &[0, 1]),
-    #[cfg(feature = "ledger")]
     ("write_image", &[0, 1, 30]),
-    #[cfg(feature = "ledger")]
     ("read_image", &[0, 1]),
-    #[cfg(feature = "ledger")]
     ("empty", &[0]),
 ];
 
@@ -82,7 +77,6 @@ const RULES: &[(&str, &[u8])] = &[
     ("registry_ingest", &[2, 3, 4, 5, 6]),
     ("credential_incept", &[1]),
     ("credential_ingest", &[1]),
-    #[cfg(feature = "ledger")]
     ("apply", &[1, 2, 3, 4, 5, 6]),
 ];
 
@@ -229,8 +223,6 @@ impl Checker {
         };
         if case.room < next.len() { Err(Answer::terminal(30)) } else { Ok(next) }
     }
-
-    #[cfg(feature = "library")]
     pub fn fold(&mut self, case: &FoldCase) -> Answer {
         let result = self.fold_expected(case);
         let (expected, written) = match &result {
@@ -259,8 +251,6 @@ impl Checker {
         self.count(call, &expected);
         expected
     }
-
-    #[cfg(feature = "library")]
     pub fn status(&mut self, input: &[u8]) {
         let expected = decode::status(input, &self.keys).map_or_else(|| Answer::terminal(1), |read| fold::status(&read));
         let mut said = host::status(input);
@@ -270,8 +260,6 @@ impl Checker {
         }
         self.count("status", &expected);
     }
-
-    #[cfg(feature = "library")]
     pub fn thresholds(&mut self, toad: u32, backers: usize) {
         let calls =
             [("exact", fold::exact(toad, backers), host::exact(toad, backers)), ("ample", fold::ample(backers), host::ample(backers))];

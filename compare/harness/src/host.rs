@@ -1,58 +1,6 @@
-//! The raw calls of libhost.a. A slice is a pointer and a length, a report one pointer to 36 bytes, a ledger one pointer to its block.
+//! The calls of libhost.a on slices, each with its report as it was written.
 use crate::answer::{Answer, REPORT};
-
-#[cfg(feature = "library")]
-unsafe extern "C" {
-    fn jamfell_registry_incept(attempt: *const u8, attempt_len: usize, next: *mut u8, next_len: usize, report: *mut u8) -> u8;
-    fn jamfell_registry_ingest(
-        state: *const u8,
-        state_len: usize,
-        attempt: *const u8,
-        attempt_len: usize,
-        next: *mut u8,
-        next_len: usize,
-        report: *mut u8,
-    ) -> u8;
-    fn jamfell_credential_incept(
-        registry: *const u8,
-        registry_len: usize,
-        attempt: *const u8,
-        attempt_len: usize,
-        next: *mut u8,
-        next_len: usize,
-        report: *mut u8,
-    ) -> u8;
-    fn jamfell_credential_ingest(
-        registry: *const u8,
-        registry_len: usize,
-        credential: *const u8,
-        credential_len: usize,
-        attempt: *const u8,
-        attempt_len: usize,
-        next: *mut u8,
-        next_len: usize,
-        report: *mut u8,
-    ) -> u8;
-    fn jamfell_status(input: *const u8, input_len: usize, report: *mut u8) -> u8;
-    fn jamfell_exact(toad: u32, backers: usize, report: *mut u8) -> u8;
-    fn jamfell_ample(backers: usize, report: *mut u8) -> u8;
-}
-
-#[cfg(feature = "ledger")]
-unsafe extern "C" {
-    fn jamfell_empty(ledger: *mut u8);
-    fn jamfell_apply(ledger: *mut u8, attempt: *const u8, attempt_len: usize, report: *mut u8) -> u8;
-    fn jamfell_look_up(
-        ledger: *const u8,
-        registry: *const u8,
-        registry_len: usize,
-        credential: *const u8,
-        credential_len: usize,
-        report: *mut u8,
-    ) -> u8;
-    fn jamfell_write_image(ledger: *const u8, out: *mut u8, out_len: usize, report: *mut u8) -> u8;
-    fn jamfell_read_image(ledger: *mut u8, image: *const u8, image_len: usize, report: *mut u8) -> u8;
-}
+use jamfell::sys;
 
 /// The report as it was written, and the number that was returned beside it.
 #[derive(Clone, Copy, PartialEq, Eq)]
@@ -66,104 +14,104 @@ impl Said {
         Answer::read(&self.report)
     }
 
-    fn by(call: impl FnOnce(*mut u8) -> u8) -> Self {
+    fn by(call: impl FnOnce(*mut [u8; REPORT]) -> u8) -> Self {
         // Whatever stands in the report before a call must not matter.
         let mut report = [0xa5; REPORT];
-        let number = call(report.as_mut_ptr());
+        let number = call(&mut report);
         Self { number, report }
     }
 }
 
 /// The size of the block, which is aligned to 8.
-pub const LEDGER: usize = 47_760;
+pub const LEDGER: usize = sys::LEDGER_BYTES;
 
 #[repr(C, align(8))]
 #[derive(Clone, PartialEq, Eq)]
 pub struct Block(pub [u8; LEDGER]);
 
 // Safety of all that follows: every pointer comes from a reference or a slice, with its length; nothing is kept by a call.
-#[cfg(feature = "library")]
-mod folds {
-    use super::*;
-
-    #[inline]
-    pub fn registry_incept(attempt: &[u8], next: &mut [u8]) -> Said {
-        Said::by(|r| unsafe { jamfell_registry_incept(attempt.as_ptr(), attempt.len(), next.as_mut_ptr(), next.len(), r) })
-    }
-
-    #[inline]
-    pub fn registry_ingest(state: &[u8], attempt: &[u8], next: &mut [u8]) -> Said {
-        Said::by(|r| unsafe {
-            jamfell_registry_ingest(state.as_ptr(), state.len(), attempt.as_ptr(), attempt.len(), next.as_mut_ptr(), next.len(), r)
-        })
-    }
-
-    #[inline]
-    pub fn credential_incept(registry: &[u8], attempt: &[u8], next: &mut [u8]) -> Said {
-        Said::by(|r| unsafe {
-            jamfell_credential_incept(registry.as_ptr(), registry.len(), attempt.as_ptr(), attempt.len(), next.as_mut_ptr(), next.len(), r)
-        })
-    }
-
-    #[inline]
-    pub fn credential_ingest(registry: &[u8], credential: &[u8], attempt: &[u8], next: &mut [u8]) -> Said {
-        Said::by(|r| unsafe {
-            jamfell_credential_ingest(
-                registry.as_ptr(),
-                registry.len(),
-                credential.as_ptr(),
-                credential.len(),
-                attempt.as_ptr(),
-                attempt.len(),
-                next.as_mut_ptr(),
-                next.len(),
-                r,
-            )
-        })
-    }
-
-    #[inline]
-    pub fn status(input: &[u8]) -> Said {
-        Said::by(|r| unsafe { jamfell_status(input.as_ptr(), input.len(), r) })
-    }
-
-    #[inline]
-    pub fn exact(toad: u32, backers: usize) -> Said {
-        Said::by(|r| unsafe { jamfell_exact(toad, backers, r) })
-    }
-
-    #[inline]
-    pub fn ample(backers: usize) -> Said {
-        Said::by(|r| unsafe { jamfell_ample(backers, r) })
-    }
+#[inline]
+pub fn registry_incept(attempt: &[u8], next: &mut [u8]) -> Said {
+    Said::by(|r| unsafe { sys::jamfell_registry_incept(attempt.as_ptr(), attempt.len(), next.as_mut_ptr(), next.len(), r) })
 }
-#[cfg(feature = "library")]
-pub use folds::*;
 
-#[cfg(feature = "ledger")]
+#[inline]
+pub fn registry_ingest(state: &[u8], attempt: &[u8], next: &mut [u8]) -> Said {
+    Said::by(|r| unsafe {
+        sys::jamfell_registry_ingest(state.as_ptr(), state.len(), attempt.as_ptr(), attempt.len(), next.as_mut_ptr(), next.len(), r)
+    })
+}
+
+#[inline]
+pub fn credential_incept(registry: &[u8], attempt: &[u8], next: &mut [u8]) -> Said {
+    Said::by(|r| unsafe {
+        sys::jamfell_credential_incept(registry.as_ptr(), registry.len(), attempt.as_ptr(), attempt.len(), next.as_mut_ptr(), next.len(), r)
+    })
+}
+
+#[inline]
+pub fn credential_ingest(registry: &[u8], credential: &[u8], attempt: &[u8], next: &mut [u8]) -> Said {
+    Said::by(|r| unsafe {
+        sys::jamfell_credential_ingest(
+            registry.as_ptr(),
+            registry.len(),
+            credential.as_ptr(),
+            credential.len(),
+            attempt.as_ptr(),
+            attempt.len(),
+            next.as_mut_ptr(),
+            next.len(),
+            r,
+        )
+    })
+}
+
+#[inline]
+pub fn status(input: &[u8]) -> Said {
+    Said::by(|r| unsafe { sys::jamfell_status(input.as_ptr(), input.len(), r) })
+}
+
+#[inline]
+pub fn exact(toad: u32, backers: usize) -> Said {
+    Said::by(|r| unsafe { sys::jamfell_exact(toad, backers, r) })
+}
+
+#[inline]
+pub fn ample(backers: usize) -> Said {
+    Said::by(|r| unsafe { sys::jamfell_ample(backers, r) })
+}
+
 impl Block {
+    fn ledger(&self) -> *const sys::Ledger {
+        self.0.as_ptr().cast()
+    }
+
+    fn ledger_mut(&mut self) -> *mut sys::Ledger {
+        self.0.as_mut_ptr().cast()
+    }
+
     pub fn empty(&mut self) {
-        unsafe { jamfell_empty(self.0.as_mut_ptr()) }
+        unsafe { sys::jamfell_empty(self.ledger_mut()) }
     }
 
     #[inline]
     pub fn apply(&mut self, attempt: &[u8]) -> Said {
-        Said::by(|r| unsafe { jamfell_apply(self.0.as_mut_ptr(), attempt.as_ptr(), attempt.len(), r) })
+        Said::by(|r| unsafe { sys::jamfell_apply(self.ledger_mut(), attempt.as_ptr(), attempt.len(), r) })
     }
 
     #[inline]
     pub fn look_up(&self, registry: &[u8], credential: &[u8]) -> Said {
         let (n, m) = (registry.len(), credential.len());
-        Said::by(|r| unsafe { jamfell_look_up(self.0.as_ptr(), registry.as_ptr(), n, credential.as_ptr(), m, r) })
+        Said::by(|r| unsafe { sys::jamfell_look_up(self.ledger(), registry.as_ptr(), n, credential.as_ptr(), m, r) })
     }
 
     #[inline]
     pub fn write_image(&self, out: &mut [u8]) -> Said {
-        Said::by(|r| unsafe { jamfell_write_image(self.0.as_ptr(), out.as_mut_ptr(), out.len(), r) })
+        Said::by(|r| unsafe { sys::jamfell_write_image(self.ledger(), out.as_mut_ptr(), out.len(), r) })
     }
 
     #[inline]
     pub fn read_image(&mut self, image: &[u8]) -> Said {
-        Said::by(|r| unsafe { jamfell_read_image(self.0.as_mut_ptr(), image.as_ptr(), image.len(), r) })
+        Said::by(|r| unsafe { sys::jamfell_read_image(self.ledger_mut(), image.as_ptr(), image.len(), r) })
     }
 }

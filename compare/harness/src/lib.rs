@@ -1,12 +1,8 @@
 //! The comparison of Jamfell's library with the given Rust: README.md of the folder above says what it does.
 pub mod answer;
-#[cfg(feature = "library")]
 pub mod bench_folds;
-#[cfg(feature = "ledger")]
 pub mod bench_ledger;
-#[cfg(feature = "library")]
 pub mod check;
-#[cfg(feature = "ledger")]
 pub mod check_ledger;
 pub mod damage;
 pub mod decode;
@@ -18,13 +14,10 @@ pub mod keys;
 pub mod make;
 pub mod measure;
 pub mod memory;
-#[cfg(feature = "ledger")]
 pub mod orders;
 pub mod plain;
 pub mod random;
-#[cfg(feature = "library")]
 pub mod run;
-#[cfg(feature = "ledger")]
 pub mod run_ledger;
 pub mod samples;
 pub mod scene;

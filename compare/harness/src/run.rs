@@ -4,6 +4,7 @@ use crate::damage::{DAMAGES, damage};
 use crate::fault::{faults, rules};
 use crate::make::{self, Scene};
 use crate::random::Rng;
+use crate::run_ledger::{images, ledgers, sequences};
 use crate::scene::Status;
 use std::collections::HashMap;
 
@@ -162,14 +163,3 @@ fn thresholds(rng: &mut Rng, checker: &mut Checker) {
         checker.thresholds(toad, backers as usize);
     }
 }
-
-#[cfg(feature = "ledger")]
-use crate::run_ledger::{images, ledgers, sequences};
-
-// Without the ledger's calls these batches are of `status`.
-#[cfg(not(feature = "ledger"))]
-fn ledgers(rng: &mut Rng, checker: &mut Checker) {
-    statuses(rng, checker);
-}
-#[cfg(not(feature = "ledger"))]
-use {ledgers as images, ledgers as sequences};

@@ -1,5 +1,4 @@
 //! Measures the library beside the given Rust. README.md says what each column is.
-#[cfg(feature = "library")]
 fn main() {
     use harness::random::Rng;
     let word = |name: &str| std::env::args().skip_while(|w| w != name).nth(1);
@@ -7,24 +6,14 @@ fn main() {
     let rng = &mut Rng::new(1);
     if let Some(row) = word("--profile") {
         let known = harness::bench_folds::profile(rng, &row, 5);
-        #[cfg(feature = "ledger")]
         let known = known || harness::bench_ledger::profile(rng, &row, 5);
         assert!(known, "no such row");
         return;
     }
     harness::bench_folds::folds(rng, rounds);
     harness::bench_folds::decoding(rng, rounds);
-    #[cfg(feature = "ledger")]
-    {
-        harness::bench_ledger::apply(rng, rounds);
-        harness::bench_ledger::images(rng, rounds);
-    }
+    harness::bench_ledger::apply(rng, rounds);
+    harness::bench_ledger::images(rng, rounds);
     harness::bench_folds::growth(rng, rounds);
-    #[cfg(feature = "ledger")]
     harness::bench_ledger::growth(rng, rounds);
-}
-
-#[cfg(not(feature = "library"))]
-fn main() {
-    println!("built without the library");
 }

@@ -1,15 +1,8 @@
 //! Compares Jamfell's library with the given Rust on generated calls. README.md says how to run it and what it prints.
-#[cfg(feature = "library")]
 fn main() {
     compare::main();
 }
 
-#[cfg(not(feature = "library"))]
-fn main() {
-    println!("built without the library");
-}
-
-#[cfg(feature = "library")]
 mod compare {
     use cesr::crypto::{KNOWN, VERIFIED};
     use harness::check::{Checker, Tally};

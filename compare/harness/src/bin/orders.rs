@@ -1,5 +1,4 @@
 //! Runs the library on two orders of random lists. README.md says what is compared.
-#[cfg(feature = "ledger")]
 fn main() {
     use harness::orders::{layout_holds, one};
     use harness::random::Rng;
@@ -30,9 +29,4 @@ fn main() {
     let differ = (0..lists.max(200)).filter(|_| one(&mut rng, true).is_err()).count();
     println!("with evidence 2 allowed: a difference in {differ} lists of {}", lists.max(200));
     assert!(differ > 0, "evidence 2 must make a difference");
-}
-
-#[cfg(not(feature = "ledger"))]
-fn main() {
-    println!("built without the ledger's calls");
 }
