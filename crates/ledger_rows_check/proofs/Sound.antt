@@ -2,9 +2,10 @@
 --     Facts                               what holds where t rows are left of n: the rows passed are sound
 --     answer                              what the rules say
 --     at-start, at-good, at-bad, at-end   it holds before the first turn, a turn keeps it, and what the loop answers is what the rules say
+--     passes-same                         what is asked of a row, by the rows that the marks leave to be searched
 --     enough, wrong-size                  what the test of the sizes says
 use Prim.Native.Nat.{ℕ, suc, _-_, _≤_}
-use mathlib.Core.Path.{_≡_, refl, _∙_}
+use mathlib.Core.Path.{_≡_, refl, ap, _∙_}
 use mathlib.Core.Bool.{Bool, true, false, _&&_}
 use mathlib.Core.List.{List}
 use lib.Dec.{eqb, leb}
@@ -16,6 +17,7 @@ use Rattle.ledger_step.specs.Ledgers.{eqPair, zeroOrOne, holds, rowRules}
 use Rattle.ledger_step.proofs.Rules.{pair-test}
 use Rattle.ledger_step.proofs.TableChecks as C
 use Rattle.ledger_rows.specs.Rows.{rowAt, findAt}
+use Rattle.ledger_rows_check.proofs.Marked.{marksOf, same-test}
 
 module _ (l : List CredentialState) where
   -- the test of the sizes, by the slice's length and the count
@@ -29,6 +31,10 @@ module _ (l : List CredentialState) where
   asked : (i : ℕ) → C.passesAt keyOf eqPair noCredential wellCredential zeroOrOne 256 pair-test l i ≡ passesAt i
   unfolding findAt
   asked i = refl
+
+  -- a search among the rows that the marks leave to be searched says the same
+  pub passes-same : (i : ℕ) → i ≤ length l → ((wellCredential (rowAt l i) && zeroOrOne (rowAt l i)) && leb (marksOf l (suc i) .searched) (findAt l (marksOf l (suc i) .searched) (rowAt l i .registry) (rowAt l i .credential))) ≡ passesAt i
+  passes-same i b = ap (λ (t : Bool). (wellCredential (rowAt l i) && zeroOrOne (rowAt l i)) && t) (same-test l i b)
 
   abbrev pub Facts : ℕ → ℕ → Type 0
   Facts n t = C.Kept keyOf eqPair noCredential wellCredential zeroOrOne 256 pair-test l n t

@@ -1,13 +1,23 @@
 // The check of all rows that are lent (docs/RULES.md, "Reading rules").
 use cesr::number::Sn;
+use cesr::primitive::Said;
 use ledger_rows::rows::find_at;
 use registry_state::state::CredentialState;
 ghost use mathlib.Core.Path.{_≡_};
-ghost use mathlib.Core.Bool.{_&&_};
+ghost use mathlib.Core.Bool.{_&&_, cond};
 ghost use lib.ListN.{length, take};
 ghost use lib.Dec.{eqb, leb};
+ghost use lib.Bits.{bitAnd};
 ghost use Rattle.registry_state.specs.States.{wellCredential};
 ghost use Rattle.ledger_step.specs.Ledgers.{zeroOrOne, holds, rowRules};
+ghost use Rattle.ledger_rows_check.specs.Marking.{noMarks, marking};
+
+// A set of 1,024 bits. The bit that a credential's first word names is set once a row has that credential, so a row whose bit is not set needs no search.
+struct Marks {
+    seen: [u64; 16],
+    // How many rows have to be searched for the last credential.
+    searched: usize,
+}
 
 // There are 256 rows, and at most so many of them are in use.
 fn right_size(len: usize, count: usize) -> bool
@@ -31,6 +41,39 @@ fn passes(w: CredentialState, found: usize, i: usize) -> bool
     row_sound(w) & (i <= found)
 }
 
+fn no_marks() -> Marks
+    ensures { λ r. ⌜ r ≡ noMarks ⌝ }
+{
+    Marks {
+        seen: [0; 16],
+        searched: 0,
+    }
+}
+
+// All `i` rows where the bit is set, and none where it is not.
+fn to_search(word: u64, bit: u64, i: usize) -> usize
+    ensures { λ r. ⌜ r ≡ cond (eqb (bitAnd word bit) bit) i 0 ⌝ }
+{
+    if (word & bit) == bit {
+        return i;
+    }
+    0
+}
+
+// The credential's bit is set, after it was read.
+fn marked(marks: Marks, credential: Said, i: usize) -> Marks
+    ensures { λ r. ⌜ r ≡ marking marks credential i ⌝ }
+{
+    let x = credential.0.w0;
+    let at = (x % 16) as usize;
+    let bit: u64 = 1 << (x / 16 % 64);
+    let word = marks.seen[at];
+    let searched = to_search(word, bit, i);
+    let mut seen = marks.seen;
+    seen[at] = word | bit;
+    Marks { seen, searched }
+}
+
 // Whether the rows keep to all the reading rules that need no registry.
 pub fn rows_sound(rows: &[CredentialState], count: usize) -> bool
     ensures { λ r. ⌜ r ≡ holds (rowRules (length (now (rows .entry))) count (take count (now (rows .entry)))) ⌝ }
@@ -38,11 +81,13 @@ pub fn rows_sound(rows: &[CredentialState], count: usize) -> bool
     if !right_size(rows.len(), count) {
         return false;
     }
+    let mut marks = no_marks();
     let mut i = 0;
     while i < count {
         let row = rows[i];
-        let found = find_at(rows, i, row.registry, row.credential);
-        if !passes(row, found, i) {
+        marks = marked(marks, row.credential, i);
+        let found = find_at(rows, marks.searched, row.registry, row.credential);
+        if !passes(row, found, marks.searched) {
             return false;
         }
         i += 1;

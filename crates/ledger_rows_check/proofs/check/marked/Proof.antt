@@ -1,0 +1,38 @@
+use borrow.Author.Needs.{needs}
+use Rattle.ledger_rows_check.specs.Marking.{marking}
+use Rattle.ledger_rows_check.proofs.check.marked.Statement.{statement}
+use Rattle.ledger_rows_check.proofs.check.marked.Tie as tie
+
+shl-bit : tie.Need-shl-bit
+shl-bit c = search needs
+
+mul-word : tie.Need-mul-word
+mul-word c = search needs
+
+element-copy-out-word : tie.Need-element-copy-out-word
+element-copy-out-word c = search needs
+
+to-search-requires : tie.Need-to-search-requires
+to-search-requires c κs = search needs
+
+mul-seen : tie.Need-mul-seen
+mul-seen c = search needs
+
+array-write-seen : tie.Need-array-write-seen
+array-write-seen c = search needs
+
+returns : tie.Need-returns
+unfolding marking
+returns c = rw (c .before .to-search .ensures)
+
+pub marked-spec : {M : Type 1} → statement M
+marked-spec =
+    tie.close
+    (tie.spec
+    shl-bit
+    mul-word
+    element-copy-out-word
+    to-search-requires
+    mul-seen
+    array-write-seen
+    returns)
