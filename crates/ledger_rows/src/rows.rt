@@ -25,7 +25,7 @@ pub fn store_row(rows: &mut [CredentialState], at: usize, w: CredentialState)
     }
 }
 
-// Most rows differ from a key in the first word of the credential, so that is looked at first: the check of all rows compares every two of them.
+// Most rows differ from a key in the first word of the credential, so that is looked at first.
 fn has_key(w: CredentialState, registry: Said, credential: Said) -> bool
     ensures { λ r. ⌜ r ≡ hasKey w registry credential ⌝ }
 {

@@ -9,10 +9,10 @@ use Rattle.ledger_rows_check.specs.declared.check.Marks.{Marks}
 
 -- the word in which the credential's bit stands, and the bit
 abbrev pub wordOf : Said → ℕ
-wordOf c = c .0 .w0 % 16
+wordOf c = c .0 .w0 / 64 % 16
 
 abbrev pub bitOf : Said → ℕ
-bitOf c = 1 * 2 ^ (c .0 .w0 / 16 % 64) % 2 ^ 64
+bitOf c = 1 * 2 ^ (c .0 .w0 % 64) % 2 ^ 64
 
 unfoldable pub noMarks : Marks
 noMarks = record { seen = replicate 16 0; searched = 0 }

@@ -61,17 +61,16 @@ fn to_search(word: u64, bit: u64, i: usize) -> usize
 }
 
 // The credential's bit is set, after it was read.
-fn marked(marks: Marks, credential: Said, i: usize) -> Marks
+fn marked(mut marks: Marks, credential: Said, i: usize) -> Marks
     ensures { λ r. ⌜ r ≡ marking marks credential i ⌝ }
 {
     let x = credential.0.w0;
-    let at = (x % 16) as usize;
-    let bit: u64 = 1 << (x / 16 % 64);
+    let at = (x / 64 % 16) as usize;
+    let bit: u64 = 1 << (x % 64);
     let word = marks.seen[at];
-    let searched = to_search(word, bit, i);
-    let mut seen = marks.seen;
-    seen[at] = word | bit;
-    Marks { seen, searched }
+    marks.seen[at] = word | bit;
+    marks.searched = to_search(word, bit, i);
+    marks
 }
 
 // Whether the rows keep to all the reading rules that need no registry.

@@ -12,18 +12,18 @@ mul-word c = search needs
 element-copy-out-word : tie.Need-element-copy-out-word
 element-copy-out-word c = search needs
 
+mul-marks : tie.Need-mul-marks
+mul-marks c = search needs
+
+element-write-marks : tie.Need-element-write-marks
+element-write-marks c = search needs
+
 to-search-requires : tie.Need-to-search-requires
 to-search-requires c κs = search needs
 
-mul-seen : tie.Need-mul-seen
-mul-seen c = search needs
-
-array-write-seen : tie.Need-array-write-seen
-array-write-seen c = search needs
-
 returns : tie.Need-returns
 unfolding marking
-returns c = rw (c .before .to-search .ensures)
+returns c = rw (c .to-search .ensures)
 
 pub marked-spec : {M : Type 1} → statement M
 marked-spec =
@@ -32,7 +32,7 @@ marked-spec =
     shl-bit
     mul-word
     element-copy-out-word
+    mul-marks
+    element-write-marks
     to-search-requires
-    mul-seen
-    array-write-seen
     returns)

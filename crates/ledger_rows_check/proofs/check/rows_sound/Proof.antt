@@ -1,5 +1,5 @@
 -- `rows::rows_sound` meets its contract: a walk of its MIR, by hand, with a loop and five calls in it. In each turn the shared borrow is opened, a row is copied out and it is shut; `marked` is called on the marks, `find_at` on the slice, which is Copy and is passed on at its own lifetime, and `passes` on the row and on what was found.
--- The invariant, where t rows are left, is `Facts` of `../../Sound.antt`; the variant is t. No borrow is open between two turns: `find_at` wants the lifetime's token.
+-- The invariant, where t rows are left, is `Facts` of `../../Sound.antt`, with the marks of the rows passed (`../../Marked.antt`) in their local; the variant is t. No borrow is open between two turns: `find_at` wants the lifetime's token.
 -- Assumes nothing.
 use mathlib.Core.Path.{_≡_, refl, sym, ap, _∙_, subst}
 use Prim.Native.Nat.{ℕ, zero, suc, _-_, _<_, _≤_, _^_}
