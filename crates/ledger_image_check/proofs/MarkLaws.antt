@@ -4,7 +4,7 @@
 --     row-tested-near   the tests of a row whose key was looked for only where it can be
 use Prim.Native.Nat.{ℕ, zero, suc, _+_, _*_, _%_, _≤_, _<_}
 use mathlib.Core.Path.{_≡_, refl, ap, sym, subst, _∙_}
-use mathlib.Core.Bool.{Bool, true, false, not, _&&_, _||_, or-false}
+use mathlib.Core.Bool.{Bool, true, false, not, _&&_, or-false}
 use mathlib.Core.List.{List}
 use native.Mathlib.Omega.{arith}
 use native.Mathlib.Decide.{ℕ-discrete, decLe}
@@ -13,7 +13,7 @@ use lib.ListN.{length, getD, set, replicate, getD-replicate, length-set, length-
 use lib.Seq.{getD-set-same, getD-set-other}
 use Rattle.laws.specs.Number.{numberAt}
 use Rattle.cesr.specs.Numbers.{value}
-use Rattle.cesr.specs.Primitives.{eqSaid, readMatter}
+use Rattle.cesr.specs.Primitives.{eqSaid}
 use Rattle.cesr.specs.declared.primitive.Said.{Said}
 use Rattle.codec_cursor.specs.Readers.{Read, placed}
 use Rattle.registry_state.specs.States.{readCredential}
@@ -30,6 +30,7 @@ module _ (s : List ℕ) (at : ℕ) where
   abbrev pub slotOf : ℕ → ℕ
   slotOf i = wordOf s at i % 1024
 
+  -- no mark is more than the rows that were met, and each of them stands before the mark of its remainder
   pub record Told (i : ℕ) (marks : List ℕ) : Type 0 where
     pub size : length marks ≡ 1024
     pub most : (j : ℕ) → j < 1024 → getD marks j 0 ≤ i
@@ -91,6 +92,7 @@ module _ (s : List ℕ) (at : ℕ) where
       one-more : (m : ℕ) → n ≤ m → suc m ≤ i → has eqPair k (keysFrom s at (suc m)) ≡ has eqPair k (keysFrom s at m)
       one-more m q u = has-snoc eqPair k (keyAt s (at + 115 * m)) (keysFrom s at m) ∙ rw (← unlike m q u) (or-false (has eqPair k (keysFrom s at m)))
 
+  -- a row that was read has the first word that stands there; one that was not passes neither way
   pub row-tested-near : (ids : List Said) (i n : ℕ) (w : Read CredentialState) (home low other : Bool) → at + 115 * i + 115 ≤ length s → OthersDiffer s at i n → w ≡ readCredential s (placed (at + 115 * i)) → home ≡ has eqSaid (w .value .registry) ids → low ≡ ltb (value (w .value .sn)) 2 → other ≡ has eqPair (keyOf (w .value)) (keysFrom s at n) → (w .next .ok && (home && (low && not other))) ≡ rowPasses s at ids i
   unfolding rowPasses keyAt wordOf
   row-tested-near ids i n w home low other b o e h l f = go (w .next .ok) refl

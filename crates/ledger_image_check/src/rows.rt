@@ -14,7 +14,7 @@ ghost use Rattle.ledger_step.specs.Ledgers.{eqPair};
 ghost use Rattle.ledger_image_check.specs.Checks.{viewIds, keyAt, keysFrom, rowPasses, rowsPass};
 ghost use Rattle.ledger_image_check.specs.Marks.{OthersDiffer};
 
-// Whether the row at a place has the key of another. Most rows differ in the first word of the credential, so that is looked at first: every two rows are compared.
+// Whether the row at a place has the key of another. Most rows differ in the first word of the credential, so that is looked at first.
 fn same_key(s: &[u8], at: usize, w: CredentialState) -> bool
     requires { ⌜ at + 115 ≤ length (now s) ⌝ }
     ensures { λ r. ⌜ r ≡ eqPair (keyAt (now (s .entry)) at) (keyOf w) ⌝ }
