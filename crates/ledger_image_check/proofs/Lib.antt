@@ -4,5 +4,6 @@ pub mod Sticky
 pub mod IdViews
 pub mod RegistryChecks
 pub mod RowChecks
+pub mod MarkLaws
 pub mod CheckLaws
 pub mod Reread

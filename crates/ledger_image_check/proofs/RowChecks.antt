@@ -35,7 +35,7 @@ use Rattle.ledger_step.proofs.Rules.{pair-test}
 use Rattle.ledger_image_check.specs.Checks.{keyAt, keysFrom, rowPasses, rowsPass}
 use Rattle.ledger_image_check.proofs.OneMore.{has-snoc, distinct-snoc}
 
-first-word : (s : List ℕ) (at : ℕ) → at + 33 ≤ length s → readMatter s at .w0 ≡ numberAt s (at + 1) 8
+pub first-word : (s : List ℕ) (at : ℕ) → at + 33 ≤ length s → readMatter s at .w0 ≡ numberAt s (at + 1) 8
 unfolding readMatter
 first-word s at b = rw (true-room s at 33 b) (sym (whole-number s (at + 1) 8 (omega (arith, b))))
 

@@ -7,7 +7,7 @@ ghost use Prim.Native.Nat.{_<_, _≤_};
 ghost use lib.ListN.{length};
 ghost use Rattle.cesr.specs.Primitives.{eqSaid};
 ghost use Rattle.ledger_step.specs.Tables.{has};
-ghost use Rattle.ledger_image_check.specs.Checks.{viewIds, idAt};
+ghost use Rattle.ledger_image_check.specs.Checks.{viewIds};
 
 // The ids are the first `count` of the items.
 pub struct Ids {
@@ -34,14 +34,6 @@ impl Ids {
         if 16 < n { 16 } else { n }
     }
 
-    // The id at `i`.
-    fn item(self, i: usize) -> Said
-        requires { ⌜ i < length (viewIds self) ⌝ }
-        ensures { λ r. ⌜ r ≡ idAt (viewIds self) i ⌝ }
-    {
-        self.items[i]
-    }
-
     // `id` behind the others.
     pub(crate) fn push(self, id: Said) -> Ids
         requires { ⌜ length (viewIds self) < 16 ⌝ }
@@ -54,6 +46,7 @@ impl Ids {
         m
     }
 
+    // The items are looked at in the loop itself, since all of them are copied at every call.
     pub(crate) fn contains(self, id: Said) -> bool
         ensures { λ r. ⌜ r ≡ has eqSaid id (viewIds self) ⌝ }
     {
@@ -61,7 +54,7 @@ impl Ids {
         let mut found = false;
         let mut i: usize = 0;
         while i < n {
-            found = found | self.item(i).same(id);
+            found = found | self.items[i].same(id);
             i += 1;
         }
         found

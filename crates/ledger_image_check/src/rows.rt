@@ -12,8 +12,9 @@ ghost use Rattle.registry_laws.specs.Pairs.{keyOf};
 ghost use Rattle.ledger_step.specs.Tables.{has};
 ghost use Rattle.ledger_step.specs.Ledgers.{eqPair};
 ghost use Rattle.ledger_image_check.specs.Checks.{viewIds, keyAt, keysFrom, rowPasses, rowsPass};
+ghost use Rattle.ledger_image_check.specs.Marks.{OthersDiffer};
 
-// Whether the row at a place has the key of another. Most rows differ in the first word of the credential, so that is looked at first: every two rows are compared.
+// Whether the row at a place has the key of another. Most rows differ in the first word of the credential, so that is looked at first.
 fn same_key(s: &[u8], at: usize, w: CredentialState) -> bool
     requires { ⌜ at + 115 ≤ length (now s) ⌝ }
     ensures { λ r. ⌜ r ≡ eqPair (keyAt (now (s .entry)) at) (keyOf w) ⌝ }
@@ -38,14 +39,14 @@ fn has_key(s: &[u8], at: usize, n: usize, w: CredentialState) -> bool
     found
 }
 
-// A row passes where its letters are right, its registry is held, its sn is 0 or 1, and its key is that of none before it.
-fn row_passes(s: &[u8], at: usize, n: usize, ids: Ids) -> bool
-    requires { ⌜ at + 115 * n + 115 ≤ length (now s) ⌝ }
-    ensures { λ r. ⌜ r ≡ rowPasses (now (s .entry)) at (viewIds ids) n ⌝ }
+// A row passes where its letters are right, its registry is held, its sn is 0 or 1, and its key is that of none before it. Only the first n before it are looked at: the caller knows that the others differ.
+fn row_passes(s: &[u8], at: usize, i: usize, ids: Ids, n: usize) -> bool
+    requires { ⌜ (at + 115 * i + 115 ≤ length (now s)) × OthersDiffer (now s) at i n ⌝ }
+    ensures { λ r. ⌜ r ≡ rowPasses (now (s .entry)) at (viewIds ids) i ⌝ }
 {
     let place = Cursor {
         ok: true,
-        at: at + 115 * n,
+        at: at + 115 * i,
     };
     let row = CredentialState::read(place, s);
     let two = Sn { hi: 0, lo: 2 };
@@ -54,16 +55,19 @@ fn row_passes(s: &[u8], at: usize, n: usize, ids: Ids) -> bool
     row.next.ok & (home & (low & !has_key(s, at, n, row.value)))
 }
 
-// Whether each of the n rows that stand from a place on passes.
+// Whether each of the n rows that stand from a place on passes. For each remainder of a first word it is kept how many rows stand up to the last that has it: only they can have the key of a row with that remainder.
 pub(crate) fn check_rows(s: &[u8], at: usize, n: usize, ids: Ids) -> bool
     requires { ⌜ at + 115 * n ≤ length (now s) ⌝ }
     ensures { λ r. ⌜ r ≡ rowsPass (now (s .entry)) at (viewIds ids) n ⌝ }
 {
+    let mut marks = [0usize; 1024];
     let mut ok = true;
     let mut i: usize = 0;
     while i < n {
-        ok = ok & row_passes(s, at, i, ids);
+        let slot = (read_u64(s, at + 115 * i + 34) % 1024) as usize;
+        ok = ok & row_passes(s, at, i, ids, marks[slot]);
         i += 1;
+        marks[slot] = i;
     }
     ok
 }

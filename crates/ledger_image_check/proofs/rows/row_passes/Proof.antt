@@ -1,15 +1,15 @@
 use borrow.Author.Needs.{needs}
 use Rattle.cesr.specs.Numbers.{value}
 use Rattle.registry_state.specs.States.{viewCredentialRead}
-use Rattle.ledger_image_check.proofs.RowChecks.{row-tested}
+use Rattle.ledger_image_check.proofs.MarkLaws.{row-tested-near}
 use Rattle.ledger_image_check.proofs.rows.row_passes.Statement.{statement}
 use Rattle.ledger_image_check.proofs.rows.row_passes.Tie as tie
 
-mul-t10 : tie.Need-mul-t10
-mul-t10 c = search needs
+mul-t11 : tie.Need-mul-t11
+mul-t11 c = search needs
 
-add-t11 : tie.Need-add-t11
-add-t11 c = search needs
+add-t12 : tie.Need-add-t12
+add-t12 c = search needs
 
 read-requires : tie.Need-read-requires
 read-requires c κs = search needs
@@ -29,14 +29,15 @@ returns c =
     let b1 = c .before in
     let b2 = b1 .before in
     let b3 = b2 .before in
-    row-tested _ _ _ _ (viewCredentialRead (b3 .before .read .result)) _ _ _ (b3 .before .read .ensures) (b2 .contains .ensures) (b3 .less .ensures) (b1 .has-key .ensures)
+    let p = b3 .before .before .before .pre in
+    row-tested-near _ _ _ _ _ (viewCredentialRead (b3 .before .read .result)) _ _ _ (p .0) (p .1) (b3 .before .read .ensures) (b2 .contains .ensures) (b3 .less .ensures) (b1 .has-key .ensures)
 
 pub row-passes-spec : {M : Type 1} → statement M
 row-passes-spec =
     tie.close
     (tie.spec
-    mul-t10
-    add-t11
+    mul-t11
+    add-t12
     read-requires
     less-requires
     contains-requires
