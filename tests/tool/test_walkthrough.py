@@ -1,4 +1,4 @@
-"""docs/WALKTHROUGH.md: each command is run, in its order, and prints exactly what stands under it."""
+"""docs/WALKTHROUGH.md and README.md: each command is run, in its order, and prints exactly what stands under it."""
 
 import os
 import re
@@ -16,13 +16,16 @@ from jamfell.library import ARCHIVE
 from jamfell.values import KINDS
 
 PAGE = (ROOT / "docs/WALKTHROUGH.md").read_text()
+README = (ROOT / "README.md").read_text()
 
 
-def commands():
-    """Each command of the page, and what it shows. An empty line between two lines of an indented block is one of the block."""
-    for block in re.findall(r"(?:^    .*\n(?:\n+(?=    ))?)+", PAGE, re.M):
+def commands(page):
+    """Each command of a page, and what it shows. An empty line between two lines of an indented block is one of the block."""
+    for block in re.findall(r"(?:^    .*\n(?:\n+(?=    ))?)+", page, re.M):
         lines = [line[4:] for line in block.splitlines()]
         if not lines[0].startswith("$ "):
+            if page is README:
+                continue
             raise AssertionError(f"a block without a command: {lines[0]}")
         starts = [place for place, line in enumerate(lines) if line.startswith("$ ")] + [len(lines)]
         for start, end in zip(starts, starts[1:]):
@@ -42,9 +45,9 @@ class Walkthrough(unittest.TestCase):
         (self.folder / "run.sh").write_text(f'#!/bin/sh\nexec "{ROOT}/run.sh" "$@"\n')
         (self.folder / "run.sh").chmod(0o755)
 
-    def follow(self, wanted):
+    def follow(self, page, wanted):
         done = 0
-        for command, shown in commands():
+        for command, shown in commands(page):
             if not wanted(command):
                 continue
             environment = {**os.environ, "LC_ALL": "C"}
@@ -55,11 +58,15 @@ class Walkthrough(unittest.TestCase):
         return done
 
     def test_without_library(self):
-        self.assertGreater(self.follow(lambda command: not needs_library(command)), 5)
+        self.assertGreater(self.follow(PAGE, lambda command: not needs_library(command)), 5)
 
     @unittest.skipUnless(ARCHIVE.is_file(), ABSENT)
     def test_with_library(self):
-        self.assertGreater(self.follow(needs_library), 10)
+        self.assertGreater(self.follow(PAGE, needs_library), 10)
+
+    @unittest.skipUnless(ARCHIVE.is_file(), ABSENT)
+    def test_readme(self):
+        self.assertGreater(self.follow(README, needs_library), 5)
 
     def test_fields(self):
         """The table of the text form has the fields that the tool takes."""
