@@ -1,6 +1,7 @@
 -- How a loop reads a section.
 --     count-within    the count is at most the limit
---     times-next      one element more, and the cursor alone
+--     times-passed    one element more that is passed
+--     times-next      one element more that is read, and the cursor alone
 --     times-pushed    one element more, pushed to a list that has room for it
 --     section-none, section-one   a section of at most one element, by its count
 --     view-put        a prefix more, stored in its place
@@ -38,9 +39,12 @@ count-within limit s c r e = rw e (go (leb (readByte s c .value) limit) refl)
         under false = omega arith
 
 module _ {A : Type 0} (p : Reader A) (s : List ℕ) (c : Cursor) where
-  pub times-next : (n : ℕ) (d : Cursor) (r : Read A) → d ≡ times n p s c .next → r ≡ p s d → r .next ≡ times (n + 1) p s c .next
+  pub times-passed : (n : ℕ) (d e : Cursor) → d ≡ times n p s c .next → e ≡ p s d .next → e ≡ times (n + 1) p s c .next
   unfolding times
-  times-next n d r e f = rw add-one (ap (λ (q : Read A). q .next) f ∙ ap (λ (x : Cursor). p s x .next) e)
+  times-passed n d e f g = rw add-one (g ∙ ap (λ (x : Cursor). p s x .next) f)
+
+  pub times-next : (n : ℕ) (d : Cursor) (r : Read A) → d ≡ times n p s c .next → r ≡ p s d → r .next ≡ times (n + 1) p s c .next
+  times-next n d r e f = times-passed n d (r .next) e (ap (λ (q : Read A). q .next) f)
 
   length-times : (n : ℕ) → length (times n p s c .value) ≡ n
   unfolding times

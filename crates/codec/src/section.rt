@@ -11,6 +11,8 @@ use events_tel::config::Configs;
 use events_tel::tel::Listed;
 use events_toad::toad::Toad;
 ghost use mathlib.Core.Path.{_≡_};
+ghost use mathlib.Core.Bool.{_&&_};
+ghost use lib.Dec.{leb};
 ghost use Prim.Native.Nat.{_≤_, min};
 ghost use Rattle.events.specs.Members.{view};
 ghost use Rattle.events_tel.specs.TelEvents.{membersIn};
@@ -127,8 +129,7 @@ pub fn pass_prefixes(c: Cursor, s: &[u8]) -> ListedRead
     let mut next = listed.next;
     let mut i: usize = 0;
     while i < count {
-        let p = next.prefix(s);
-        next = p.next;
+        next = next.pass_prefix(s);
         i += 1;
     }
     ListedRead {
@@ -202,12 +203,19 @@ fn read_event_seal(c: Cursor, s: &[u8]) -> SealRead
     }
 }
 
+// A seal's kind is 1 to 8.
+fn is_seal_kind(kind: u8) -> bool
+    ensures { λ r. ⌜ r ≡ (leb 1 kind && leb kind 8) ⌝ }
+{
+    (1 <= kind) & (kind <= 8)
+}
+
 fn read_other_seal(c: Cursor, s: &[u8]) -> SealRead
     ensures { λ r. ⌜ viewSealRead r ≡ readOtherSeal (now (s .entry)) c ⌝ }
 {
     let k = c.byte(s);
     let kind = k.value;
-    let next = k.next.expect_that((1 <= kind) & (kind <= 8));
+    let next = k.next.expect_that(is_seal_kind(kind));
     let value = seal_of(kind);
     SealRead { value, next }
 }
@@ -222,6 +230,18 @@ pub fn read_seal(c: Cursor, s: &[u8]) -> SealRead
     read_other_seal(c, s)
 }
 
+// Behind a seal that is not wanted. It is held to its layout.
+fn pass_seal(c: Cursor, s: &[u8]) -> Cursor
+    ensures { λ r. ⌜ r ≡ readSeal (now (s .entry)) c .next ⌝ }
+{
+    let k = c.byte(s);
+    let kind = k.value;
+    if kind == 4 {
+        return k.next.pass_identifier(s).advance(s, 16).pass_said(s);
+    }
+    k.next.expect_that(is_seal_kind(kind))
+}
+
 // Behind a section of at most 8 seals, each held to its layout. The seals stay in the bytes.
 pub fn pass_seals(c: Cursor, s: &[u8]) -> Cursor
     ensures { λ r. ⌜ r ≡ section 8 readSeal (now (s .entry)) c .next ⌝ }
@@ -231,8 +251,7 @@ pub fn pass_seals(c: Cursor, s: &[u8]) -> Cursor
     let mut next = seals.next;
     let mut i: usize = 0;
     while i < count {
-        let seal = read_seal(next, s);
-        next = seal.next;
+        next = pass_seal(next, s);
         i += 1;
     }
     next

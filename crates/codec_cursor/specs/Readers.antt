@@ -62,6 +62,10 @@ readNumber s c = record { value = readSn s (c .at); next = advanced s c 16 }
 unfoldable pub readIf : (Matter → Bool) → Reader Matter
 readIf test s c = record { value = readMatter s (c .at); next = need (advanced s c 33) (test (readMatter s (c .at))) }
 
+-- a primitive of this letter and no bytes
+abbrev pub letterOnly : ℕ → Matter
+letterOnly code = record { code = code; w0 = 0; w1 = 0; w2 = 0; w3 = 0 }
+
 -- an identifier is basic or a digest
 unfoldable pub isIdentifier : Matter → Bool
 isIdentifier m = isBasic m || isSaid m

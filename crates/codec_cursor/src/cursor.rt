@@ -7,7 +7,7 @@ use cesr::primitive::BasicPrefix;
 use cesr::primitive::Matter;
 use cesr::primitive::Said;
 ghost use mathlib.Core.Path.{_≡_};
-ghost use Rattle.codec_cursor.specs.Readers.{starting, advanced, need, viewByte, readByte, viewSaid, readSaid, viewPrefix, readPrefix, viewMatter, readIdentifier, viewSn, readNumber, viewU32, readQuad, counted};
+ghost use Rattle.codec_cursor.specs.Readers.{starting, advanced, need, viewByte, readByte, viewSaid, readSaid, viewPrefix, readPrefix, viewMatter, readIdentifier, viewSn, readNumber, viewU32, readQuad, counted, letterOnly};
 
 pub struct Cursor {
     pub ok: bool,
@@ -111,7 +111,7 @@ impl Cursor {
     pub fn said(self, s: &[u8]) -> SaidRead
         ensures { λ r. ⌜ viewSaid r ≡ readSaid (now (s .entry)) self ⌝ }
     {
-        let m = Matter::read(s, self.at);
+        let m = by_fields(Matter::read(s, self.at));
         let next = self.advance(s, 33).expect_that(m.is_said());
         SaidRead {
             value: Said(m),
@@ -122,7 +122,7 @@ impl Cursor {
     pub fn prefix(self, s: &[u8]) -> PrefixRead
         ensures { λ r. ⌜ viewPrefix r ≡ readPrefix (now (s .entry)) self ⌝ }
     {
-        let m = Matter::read(s, self.at);
+        let m = by_fields(Matter::read(s, self.at));
         let next = self.advance(s, 33).expect_that(m.is_basic());
         PrefixRead {
             value: BasicPrefix(m),
@@ -133,9 +133,60 @@ impl Cursor {
     pub fn identifier(self, s: &[u8]) -> MatterRead
         ensures { λ r. ⌜ viewMatter r ≡ readIdentifier (now (s .entry)) self ⌝ }
     {
-        let value = Matter::read(s, self.at);
+        let value = by_fields(Matter::read(s, self.at));
         let next = self.advance(s, 33)
             .expect_that(value.is_basic() | value.is_said());
         MatterRead { value, next }
+    }
+
+    // Behind a digest whose bytes are not wanted: only its letter is looked at.
+    pub fn pass_said(self, s: &[u8]) -> Cursor
+        ensures { λ r. ⌜ r ≡ readSaid (now (s .entry)) self .next ⌝ }
+    {
+        let letter = lettered(read_u8(s, self.at));
+        self.advance(s, 33).expect_that(letter.is_said())
+    }
+
+    // Behind a prefix, in the same way.
+    pub fn pass_prefix(self, s: &[u8]) -> Cursor
+        ensures { λ r. ⌜ r ≡ readPrefix (now (s .entry)) self .next ⌝ }
+    {
+        let letter = lettered(read_u8(s, self.at));
+        self.advance(s, 33).expect_that(letter.is_basic())
+    }
+
+    // Behind an identifier, in the same way.
+    pub fn pass_identifier(self, s: &[u8]) -> Cursor
+        ensures { λ r. ⌜ r ≡ readIdentifier (now (s .entry)) self .next ⌝ }
+    {
+        let letter = lettered(read_u8(s, self.at));
+        self.advance(s, 33)
+            .expect_that(letter.is_basic() | letter.is_said())
+    }
+}
+
+// The primitive itself. Of one that a call hands back whole, with the gap behind its letter, the compiler makes slow copies.
+fn by_fields(m: Matter) -> Matter
+    ensures { λ r. ⌜ r ≡ m ⌝ }
+{
+    Matter {
+        code: m.code,
+        w0: m.w0,
+        w1: m.w1,
+        w2: m.w2,
+        w3: m.w3,
+    }
+}
+
+// A primitive of this letter, which is asked for its role.
+fn lettered(code: u8) -> Matter
+    ensures { λ r. ⌜ r ≡ letterOnly code ⌝ }
+{
+    Matter {
+        code,
+        w0: 0,
+        w1: 0,
+        w2: 0,
+        w3: 0,
     }
 }

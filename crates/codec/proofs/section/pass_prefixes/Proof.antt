@@ -4,7 +4,7 @@ use mathlib.Core.Path.{_≡_, refl, ap, _∙_}
 use native.Mathlib.Omega.{arith}
 use denote.Ref.{now}
 use Rattle.codec_cursor.specs.Readers.{readPrefix, times}
-use Rattle.codec.proofs.Loops.{times-next, listed-read}
+use Rattle.codec.proofs.Loops.{times-passed, listed-read}
 use Rattle.codec.proofs.section.pass_prefixes.Statement.{statement}
 use Rattle.codec.proofs.section.pass_prefixes.Tie as tie
 
@@ -21,8 +21,8 @@ loop-holds : tie.Need-loop-holds Inv-loop μ-loop
 unfolding times
 loop-holds c = (search needs, refl)
 
-prefix-requires : tie.Need-prefix-requires Inv-loop μ-loop
-prefix-requires c κs = search needs
+pass-prefix-requires : tie.Need-pass-prefix-requires Inv-loop μ-loop
+pass-prefix-requires c κs = search needs
 
 add-i : tie.Need-add-i Inv-loop μ-loop
 add-i c = search needs
@@ -32,8 +32,7 @@ loop-less c = search needs
 
 loop-again : tie.Need-loop-again Inv-loop μ-loop
 loop-again c =
-    let b1 = c .before in
-    (search needs, times-next readPrefix _ _ _ _ _ (b1 .before .before .loop .inv .1) (b1 .prefix .ensures))
+    (search needs, times-passed readPrefix _ _ _ _ _ (c .before .before .loop .inv .1) (c .pass-prefix .ensures))
 
 returns : tie.Need-returns Inv-loop μ-loop
 returns c =
@@ -51,7 +50,7 @@ pass-prefixes-spec =
     μ-loop
     count-up-to-requires
     loop-holds
-    prefix-requires
+    pass-prefix-requires
     add-i
     loop-less
     loop-again

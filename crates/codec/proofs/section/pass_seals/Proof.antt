@@ -5,7 +5,7 @@ use borrow.Author.Needs.{needs}
 use denote.Ref.{now}
 use Rattle.codec_cursor.specs.Readers.{times, section}
 use Rattle.codec.specs.Events.{readSeal}
-use Rattle.codec.proofs.Loops.{times-next}
+use Rattle.codec.proofs.Loops.{times-passed}
 use Rattle.codec.proofs.section.pass_seals.Statement.{statement}
 use Rattle.codec.proofs.section.pass_seals.Tie as tie
 
@@ -22,8 +22,8 @@ loop-holds : tie.Need-loop-holds Inv-loop μ-loop
 unfolding times
 loop-holds c = (search needs, refl)
 
-read-seal-requires : tie.Need-read-seal-requires Inv-loop μ-loop
-read-seal-requires c κs = search needs
+pass-seal-requires : tie.Need-pass-seal-requires Inv-loop μ-loop
+pass-seal-requires c κs = search needs
 
 add-i : tie.Need-add-i Inv-loop μ-loop
 add-i c = search needs
@@ -33,8 +33,7 @@ loop-less c = search needs
 
 loop-again : tie.Need-loop-again Inv-loop μ-loop
 loop-again c =
-    let b1 = c .before in
-    (search needs, times-next readSeal _ _ _ _ _ (b1 .before .before .loop .inv .1) (b1 .read-seal .ensures))
+    (search needs, times-passed readSeal _ _ _ _ _ (c .before .before .loop .inv .1) (c .pass-seal .ensures))
 
 returns : tie.Need-returns Inv-loop μ-loop
 unfolding section
@@ -53,7 +52,7 @@ pass-seals-spec =
     μ-loop
     count-up-to-requires
     loop-holds
-    read-seal-requires
+    pass-seal-requires
     add-i
     loop-less
     loop-again
