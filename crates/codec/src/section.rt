@@ -113,7 +113,8 @@ fn read_members(c: Cursor, s: &[u8], count: usize) -> PrefixesRead
 }
 
 pub fn read_prefixes(c: Cursor, s: &[u8]) -> PrefixesRead
-    ensures { λ r. ⌜ viewPrefixesRead r ≡ readPrefixes (now (s .entry)) c ⌝ }
+    ensures read { λ r. ⌜ viewPrefixesRead r ≡ readPrefixes (now (s .entry)) c ⌝ }
+    ensures count { λ r. ⌜ r .value .count ≤ 16 ⌝ }
 {
     let n = count_up_to(c, s, 16);
     read_members(n.next, s, n.value)

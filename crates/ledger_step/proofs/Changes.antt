@@ -43,7 +43,7 @@ use Rattle.ledger_step.specs.Steps.Request.{nothing, inception, rotation
 use Rattle.ledger_step.specs.Steps.Effect.{refuse, newRegistry, setRegistry, newRow, setRow}
 use Rattle.ledger_step.specs.OrderFreedom.{classBy}
 use Rattle.ledger_step.specs.OrderFreedom.Class.{rotationsOf, attemptsOn}
-use Rattle.ledger_step.proofs.TableLaws.{find-key, has-find, all-find, all-put, map-put, all-weaker, has-more, distinct-append}
+use Rattle.ledger_step.proofs.TableLaws.{find-key, has-find, all-find, all-put, map-put, has-more, distinct-append}
 use Rattle.ledger_step.proofs.Rules.{said-test, pair-test, Keeps}
 use Rattle.ledger_step.proofs.ReadLetters.{Lettered, event-lettered}
 use Rattle.ledger_step.proofs.NewStates.{inception-id, issue-well, issue-low, revocation-well, revocation-low}

@@ -96,11 +96,6 @@ module _ {K : Type 0} (eq : K → K → Bool) (test : Tests eq) where
       go false ih q = ih q
 
 -- what every element passes, it passes by a weaker test
-pub all-weaker : {X : Type 0} (p q : X → Bool) (l : List X) → ((x : X) → p x ≡ true → q x ≡ true) → all p l ≡ true → all q l ≡ true
-unfolding all
-all-weaker p q [] w h = refl
-all-weaker p q (x ∷ l) w h = rw (w x (and-left (p x) (all p l) h)) (all-weaker p q l w (and-right (p x) (all p l) h))
-
 module _ {X K : Type 0} (key : X → K) (eq : K → K → Bool) where
   pub find-append : (k : K) (l : List X) (x : X) → find key eq k (l ++ (x ∷ [])) ≡ behind (find key eq k l) (cond (eq (key x) k) (some x) none)
   unfolding find

@@ -3,8 +3,9 @@
 --     registry-back, credential-back       a state that was written is read
 --     registry-again, credential-again     a state that was read writes the same bytes
 --     registry-good, credential-good       a state that is handed in and well-formed is within the limits of the layout
+--     registry-read                        a registry state that was read is well-formed, where its counts are within the limits
 use Prim.Native.Nat.{ℕ, _+_, _≤_}
-use mathlib.Core.Path.{_≡_, refl}
+use mathlib.Core.Path.{_≡_, refl, sym, ap, _∙_}
 use mathlib.Core.List.{List, [], _∷_}
 use mathlib.Core.Bool.{Bool, true, _&&_}
 use native.Mathlib.Omega.{arith}
@@ -17,7 +18,8 @@ use Rattle.laws.proofs.Tests.{and-left, and-right}
 use Rattle.cesr.specs.Primitives.{isBasic, isSaid}
 use Rattle.events_tel.specs.Configs.{viewConfigs}
 use Rattle.events.specs.Members.{view}
-use Rattle.codec_cursor.specs.Readers.{placed, isIdentifier}
+use Rattle.codec_cursor.specs.declared.cursor.Cursor.{Cursor}
+use Rattle.codec_cursor.specs.Readers.{Read, placed, isIdentifier}
 use Rattle.codec.specs.Events.{isConfig}
 use Rattle.codec.specs.Layout.{all, isMatter, goodSaid, goodIdentifier, goodSn, goodToad, goodConfigs, goodPrefix, goodPrefixes}
 use Rattle.codec.proofs.CodesRound.{codes-back, codes-again}
@@ -27,8 +29,9 @@ use Rattle.cesr.specs.declared.primitive.Said.{Said}
 use Rattle.cesr.specs.declared.primitive.BasicPrefix.{BasicPrefix}
 use Rattle.codec.proofs.Codes.{Codes, and-true, codes-map, codes-both, codes-quad, codes-sn, codes-said, codes-identifier}
 use Rattle.codec.proofs.CodesSeal.{codes-configs, codes-prefixes}
-use Rattle.registry_state.specs.States.{Registry, registryBytes, credentialBytes, goodRegistry, goodCredential, registryOf, readRegistry, credentialOf, readCredential, viewRegistry, wellRegistry, wellCredential, rangedRegistry, rangedCredential}
+use Rattle.registry_state.specs.States.{Registry, registryBytes, credentialBytes, goodRegistry, goodCredential, registryOf, readRegistry, credentialOf, readCredential, viewRegistry, isBacker, wellRegistry, wellCredential, rangedRegistry, rangedCredential}
 use Rattle.registry_state.specs.declared.state.RegistryState.{RegistryState}
+use Rattle.registry_state.proofs.StateLoops.{all-weaker}
 use Rattle.registry_state.specs.declared.state.CredentialState.{CredentialState}
 
 registryParts : Registry → Said × (Matter × (Sn × (Said × (ℕ × (List ℕ × List BasicPrefix)))))
@@ -106,3 +109,30 @@ credential-good w h r =
     and-true _ _ (and-true _ _ (and-left (isSaid (w .registry .0)) _ h) (and-left (isMatter (w .registry .0)) _ r))
     (and-true _ _ (and-true _ _ (and-left (isSaid (w .credential .0)) _ h1) (and-left (isMatter (w .credential .0)) _ r1))
     (and-true _ _ (and-left (goodSn (w .sn)) _ r2) (and-true _ _ (and-right (isSaid (w .credential .0)) _ h1) (and-right (goodSn (w .sn)) _ r2))))
+
+-- a state within the limits of the layout is well-formed, where its counts are within theirs
+held-well : (g : RegistryState) → goodRegistry (viewRegistry g) ≡ true → g .configs .count ≤ 8 → g .backers .count ≤ 16 → wellRegistry g ≡ true
+unfolding goodRegistry wellRegistry goodSaid goodIdentifier goodConfigs goodPrefixes goodPrefix
+held-well g h m n =
+    let v = viewRegistry g in
+    let h1 = and-right (goodSaid (v .id)) _ h in
+    let h2 = and-right (goodIdentifier (v .issuer)) _ h1 in
+    let h3 = and-right (goodSn (v .sn)) _ h2 in
+    let h4 = and-right (goodSaid (v .latest)) _ h3 in
+    let h5 = and-right (goodToad (v .toad)) _ h4 in
+    let backers = and-right (leb (length (v .backers)) 16) _ (and-right (goodConfigs (v .configs)) _ h5) in
+    and-true _ _ (le-leb (g .configs .count) 8 m)
+    (and-true _ _ (le-leb (g .backers .count) 16 n)
+    (and-true _ _ (and-left (isSaid (v .id .0)) _ (and-left (goodSaid (v .id)) _ h))
+    (and-true _ _ (and-left (isIdentifier (v .issuer)) _ (and-left (goodIdentifier (v .issuer)) _ h1))
+    (and-true _ _ (and-left (isSaid (v .latest .0)) _ (and-left (goodSaid (v .latest)) _ h3))
+    (and-true _ _ (and-right (leb (length (v .configs)) 8) _ (and-left (goodConfigs (v .configs)) _ h5))
+    (all-weaker goodPrefix isBacker (v .backers) (λ p q. and-left (isBasic (p .0)) (isMatter (p .0)) q) backers))))))
+
+pub registry-read : (s : List ℕ) (c : Cursor) → Bytes s → (g : RegistryState) (d : Cursor) → g .configs .count ≤ 8 → g .backers .count ≤ 16 → record { value = viewRegistry g; next = d } ≡ readRegistry s c → (record { value = viewRegistry g; next = d } ≡ readRegistry s c) × (d .ok ≡ true → wellRegistry g ≡ true)
+registry-read s c b g d m n e = (
+  e,
+  λ o.
+      let good = codes-registry .sound s c b (ap (λ (r : Read Registry). r .next .ok) (sym e) ∙ o) .limits in
+      held-well g (ap (λ (r : Read Registry). goodRegistry (r .value)) e ∙ good) m n,
+)

@@ -1,5 +1,6 @@
 -- Laws of states.
 --     all-pass, all-fail     how a loop finds whether every element passes a test
+--     all-weaker             every element passes a weaker test
 --     length-credential      a credential state has 115 bytes
 --     length-registry        a registry state has 121, its config bytes, and 33 for each backer
 --     credential-head, registry-head   the parts that states are written in
@@ -9,6 +10,7 @@ use mathlib.Core.Bool.{Bool, true, false, and-false}
 use mathlib.Core.List.{List, [], _∷_, append-assoc}
 use native.Mathlib.Omega.{arith}
 use lib.ListN.{length, getD}
+use Rattle.laws.proofs.Tests.{and-left, and-right}
 use Rattle.codec.specs.Layout.{all}
 use Rattle.registry_state.specs.declared.state.CredentialState.{CredentialState}
 use Rattle.registry_bytes.specs.StateBytes.{headBytes, restBytes, stateBytes}
@@ -26,6 +28,12 @@ module _ {A : Type 0} (test : A → Bool) (none : A) where
   all-fail [] i b e = absurd (omega arith)
   all-fail (x ∷ l) zero b e = rw e
   all-fail (x ∷ l) (suc i) b e = rw (all-fail l i (omega arith) e) (and-false (test x))
+
+-- what passes a test passes a weaker one
+pub all-weaker : {X : Type 0} (p q : X → Bool) (l : List X) → ((x : X) → p x ≡ true → q x ≡ true) → all p l ≡ true → all q l ≡ true
+unfolding all
+all-weaker p q [] w h = refl
+all-weaker p q (x ∷ l) w h = rw (w x (and-left (p x) (all p l) h)) (all-weaker p q l w (and-right (p x) (all p l) h))
 
 pub credential-head : (w : CredentialState) → credentialBytes w ≡ headBytes (w .registry .0) (w .credential .0) (w .sn) (w .head .0)
 unfolding credentialBytes headBytes

@@ -2,6 +2,7 @@
 use cesr::number::Sn;
 use cesr::primitive::Matter;
 use cesr::primitive::Said;
+use codec::section::pass_prefixes;
 use codec::section::read_configs;
 use codec::section::read_prefixes;
 use codec_cursor::cursor::Cursor;
@@ -12,6 +13,7 @@ use registry_bytes::writer::state_size;
 use registry_bytes::writer::write_credential;
 use registry_bytes::writer::write_registry;
 ghost use mathlib.Core.Path.{_≡_};
+ghost use mathlib.Core.Bool.{true};
 ghost use Prim.Native.Nat.{_+_};
 ghost use lib.ListN.{length};
 ghost use Rattle.laws.specs.Room.{room, put};
@@ -107,8 +109,21 @@ impl RegistryState {
         )
     }
 
+    // Behind a state that is not wanted. It is held to its layout.
+    pub fn pass(c: Cursor, s: &[u8]) -> Cursor
+        ensures { λ r. ⌜ r ≡ readRegistry (now (s .entry)) c .next ⌝ }
+    {
+        let sn = c.pass_said(s).pass_identifier(s);
+        let toad = sn.advance(s, 16).pass_said(s);
+        let configs = read_configs(toad.advance(s, 4), s);
+        let backers = pass_prefixes(configs.next, s);
+        backers.next
+    }
+
+    // What is read keeps to its layout, with counts within the limits.
     pub fn read(c: Cursor, s: &[u8]) -> RegistryRead
-        ensures { λ r. ⌜ viewRegistryRead r ≡ readRegistry (now (s .entry)) c ⌝ }
+        ensures read { λ r. ⌜ viewRegistryRead r ≡ readRegistry (now (s .entry)) c ⌝ }
+        ensures well { λ r. ⌜ (r .next .ok ≡ true → wellRegistry (r .value) ≡ true) ⌝ }
     {
         let id = c.said(s);
         let issuer = id.next.identifier(s);
@@ -123,7 +138,7 @@ impl RegistryState {
         let sn = sn.value;
         let latest = latest.value;
         let toad = Toad::from_wire(toad.value);
-        let configs = configs.value;
+        let configs = configs.value.trimmed();
         let backers = backers.value;
         let value = RegistryState {
             id,
@@ -222,7 +237,8 @@ fn all_backers(backers: Members) -> bool
     let n = backers.size();
     let mut i: usize = 0;
     while i < n {
-        if !backers.item(i).0.is_basic() {
+        let backer = backers.items[i];
+        if !backer.0.is_basic() {
             return false;
         }
         i += 1;

@@ -13,7 +13,9 @@ read-members-requires c κs = count-within 16 _ _ _ (c .count-up-to .ensures)
 
 returns : tie.Need-returns
 unfolding readPrefixes section
-returns c = rw (← c .before .count-up-to .ensures) (c .read-members .ensures .0)
+returns c =
+    let n = c .before .count-up-to .ensures in
+    (rw (← n) (c .read-members .ensures .0), rw (c .read-members .ensures .1) (count-within 16 _ _ _ n))
 
 pub read-prefixes-spec : {M : Type 1} → statement M
 read-prefixes-spec = tie.close (tie.spec count-up-to-requires read-members-requires returns)
