@@ -24,12 +24,11 @@ use Rattle.codec.specs.Layout.{joined}
 use Rattle.codec.proofs.Loops.{count-within}
 use Rattle.codec.proofs.Codes.{codes-after}
 use Rattle.codec.proofs.CodesList.{codes-times, codes-section}
-use Rattle.registry_state.specs.States.{readRegistry, viewRegistryRead}
+use Rattle.registry_state.specs.States.{readRegistry}
 use Rattle.registry_wire.specs.Attempts.{Anchor, Decoded, anchorBytes, goodAnchor, readSource, readAnchor, readAnchors, readIssuer, readBackerAt, readEvidence, readMessage, decodeOf, anchorsIn, evidenceOf, evidenceAs, partOf, Holds, ReadAs, passedAnchors}
 use Rattle.registry_seals.specs.SignatureSections.{signatureBytes, goodSignature, readSignature, signaturesIn, passedSignatures}
 use Rattle.registry_wire.specs.Attempts.Evidence.{missing, issuer, backer}
 use Rattle.registry_wire.specs.Attempts.Decoded.{malformed, decoded}
-use Rattle.registry_state.specs.declared.state.RegistryRead.{RegistryRead}
 use Rattle.registry_wire.specs.declared.attempt.Source.{Source}
 use Rattle.registry_wire.specs.declared.attempt.Part.{Part}
 use Rattle.registry_wire.specs.declared.attempt.AnchorsRead.{AnchorsRead}
@@ -114,9 +113,9 @@ module _ (s : List ℕ) (c : Cursor) where
         holds = λ h. subst (λ (x : AnchorsRead). Holds s (x .value)) (sym ea) (anchors-hold s (m .next) b (rw n at h));
       }
 
-  pub state-read : (r : RegistryRead) (m : Matter) → viewRegistryRead r ≡ readRegistry s c → ReadAs s (record { kind = 3; issuer = m; carried = nothing; management = c; next = r .next }) (readBackerAt s c)
+  pub state-read : (d : Cursor) (m : Matter) → d ≡ readRegistry s c .next → ReadAs s (record { kind = 3; issuer = m; carried = nothing; management = c; next = d }) (readBackerAt s c)
   unfolding readBackerAt evidenceOf
-  state-read r m e = record { next = rw (← e); value = λ h. rw (← e); holds = λ h. nothing-held s }
+  state-read d m e = record { next = e; value = λ h. refl; holds = λ h. nothing-held s }
 
   pub plain-read : (k : ℕ) (m : Matter) (g d : Cursor) → (k ≡ 1 → ⊥) → (k ≡ 3 → ⊥) → d ≡ c → ReadAs s (record { kind = k; issuer = m; carried = nothing; management = g; next = d }) (record { value = cond (eqb k 2) backer missing; next = c })
   unfolding evidenceOf

@@ -148,10 +148,9 @@ fn read_sources(c: Cursor, s: &[u8]) -> SourcesRead
 fn pass_anchor(c: Cursor, s: &[u8]) -> Cursor
     ensures { λ r. ⌜ r ≡ readAnchor (now (s .entry)) c .next ⌝ }
 {
-    let i = c.identifier(s);
-    let n = i.next.sn(s);
-    let d = n.next.said(s);
-    pass_seals(d.next, s)
+    let sn = c.pass_identifier(s);
+    let said = sn.advance(s, 16);
+    pass_seals(said.pass_said(s), s)
 }
 
 // Behind a section of at most one anchoring event. It stays in the bytes; its part is empty where there is none.
@@ -197,8 +196,7 @@ fn read_issuer(c: Cursor, s: &[u8]) -> EvidenceRead
 fn read_backer_at(c: Cursor, s: &[u8]) -> EvidenceRead
     ensures { λ r. ⌜ ReadAs (now (s .entry)) r (readBackerAt (now (s .entry)) c) ⌝ }
 {
-    let g = RegistryState::read(c, s);
-    let next = g.next;
+    let next = RegistryState::pass(c, s);
     EvidenceRead {
         kind: 3,
         issuer: Matter::none(),

@@ -28,7 +28,7 @@ returns-2 c =
     let b2 = c .before .before in
     let z = b2 .before .if1 .left in
     let n = b2 .before .before .before .count-up-to in
-    rw (section-one readRegistry _ _ _ (n .ensures) z, ne-eqb (n .result .value) 0 z, ← b2 .read .ensures)
+    rw (section-one readRegistry _ _ _ (n .ensures) z, ne-eqb (n .result .value) 0 z, ← b2 .read .ensures .0)
 
 pub read-registries-spec : {M : Type 1} → statement M
 read-registries-spec =
