@@ -1,5 +1,5 @@
 -- How registries of an image are read and stored, one at a time, as a loop goes.
---     trimmed-held         a registry with the counts of its lists, as it is held
+--     counted-held         a registry whose counts are within the limits, as it is held
 --     after                the cursor behind the first i registries
 --     Facts, at-start, at-turn, at-end   what holds where t registries are left of n: before the first turn, after a turn, and at the end
 use Prim.Native.Nat.{ℕ, suc, _+_, _-_, _<_, _≤_, min}
@@ -10,10 +10,6 @@ use native.Mathlib.Omega.{arith}
 use borrow.Author.Tests.{le-leb}
 use lib.ListN.{length, take, drop, set, length-set}
 use lib.Seq.{take-suc-set, drop-set-lt, drop-drop}
-use Rattle.events.specs.Members.{view}
-use Rattle.events.specs.declared.member_set.Members.{Members}
-use Rattle.events_tel.specs.Configs.{viewConfigs}
-use Rattle.events_tel.specs.declared.config.Configs.{Configs}
 use Rattle.codec_cursor.specs.Readers.{placed, times}
 use Rattle.codec_cursor.specs.declared.cursor.Cursor.{Cursor}
 use Rattle.registry_state.specs.States.{Registry, viewRegistry, wellRegistry, readRegistry}
@@ -21,13 +17,10 @@ use Rattle.registry_state.specs.declared.state.RegistryState.{RegistryState}
 use Rattle.ledger_step.specs.Ledgers.{heldOf}
 use Rattle.ledger_registry_image.specs.RegistrySections.{registriesIn, wellLetters, heldRead, Stored}
 
--- the registry with other lists
-abbrev pub relisted : RegistryState → Configs → Members → RegistryState
-relisted g cs ms = record { id = g .id; issuer = g .issuer; sn = g .sn; latest = g .latest; toad = g .toad; configs = cs; backers = ms }
-
-pub trimmed-held : (g : RegistryState) (cs : Configs) (ms : Members) → (viewConfigs cs ≡ viewConfigs (g .configs)) × (cs .count ≤ 8) → (view ms ≡ view (g .backers)) × (ms .count ≤ 16) → heldOf (relisted g cs ms) ≡ heldRead (viewRegistry g)
+-- a registry whose counts are within the limits, as it is held
+pub counted-held : (g : RegistryState) → (g .configs .count ≤ 8) × (g .backers .count ≤ 16) → heldOf g ≡ heldRead (viewRegistry g)
 unfolding wellRegistry wellLetters
-trimmed-held g cs ms h k = rw (h .0, k .0, le-leb (cs .count) 8 (h .1), le-leb (ms .count) 16 (k .1))
+counted-held g h = rw (le-leb (g .configs .count) 8 (h .0), le-leb (g .backers .count) 16 (h .1))
 
 module _ (bs : List ℕ) where
   abbrev pub after : ℕ → Cursor

@@ -80,30 +80,11 @@ pub fn write_registries(registries: &[RegistryState], count: usize, out: &mut [u
     }
 }
 
-// The registry at a cursor. Its counts are those of its lists, so that it is well formed where its letters are.
+// The registry at a cursor, as it is held.
 fn read_next(c: Cursor, image: &[u8]) -> RegistryRead
     ensures { λ r. ⌜ (heldOf (r .value) ≡ heldRead (readRegistry (now (image .entry)) c .value)) × (r .next ≡ readRegistry (now (image .entry)) c .next) ⌝ }
 {
-    let r = RegistryState::read(c, image);
-    let next = r.next;
-    let g = r.value;
-    let id = g.id;
-    let issuer = g.issuer;
-    let sn = g.sn;
-    let latest = g.latest;
-    let toad = g.toad;
-    let configs = g.configs.trimmed();
-    let backers = g.backers.trimmed();
-    let value = RegistryState {
-        id,
-        issuer,
-        sn,
-        latest,
-        toad,
-        configs,
-        backers,
-    };
-    RegistryRead { value, next }
+    RegistryState::read(c, image)
 }
 
 // The first `count` registries are read from the image, one behind the other from byte 2 on, and stored from the first place on, as many as the slice has places for. The other places stay.

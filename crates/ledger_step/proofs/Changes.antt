@@ -43,6 +43,7 @@ use Rattle.ledger_step.specs.Steps.Request.{nothing, inception, rotation
 use Rattle.ledger_step.specs.Steps.Effect.{refuse, newRegistry, setRegistry, newRow, setRow}
 use Rattle.ledger_step.specs.OrderFreedom.{classBy}
 use Rattle.ledger_step.specs.OrderFreedom.Class.{rotationsOf, attemptsOn}
+use Rattle.registry_state.proofs.StateLoops.{all-weaker}
 use Rattle.ledger_step.proofs.TableLaws.{find-key, has-find, all-find, all-put, map-put, has-more, distinct-append}
 use Rattle.ledger_step.proofs.Rules.{said-test, pair-test, Keeps}
 use Rattle.ledger_step.proofs.ReadLetters.{Lettered, event-lettered}

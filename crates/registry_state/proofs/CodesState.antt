@@ -129,10 +129,10 @@ held-well g h m n =
     (and-true _ _ (and-right (leb (length (v .configs)) 8) _ (and-left (goodConfigs (v .configs)) _ h5))
     (all-weaker goodPrefix isBacker (v .backers) (λ p q. and-left (isBasic (p .0)) (isMatter (p .0)) q) backers))))))
 
-pub registry-read : (s : List ℕ) (c : Cursor) → Bytes s → (g : RegistryState) (d : Cursor) → g .configs .count ≤ 8 → g .backers .count ≤ 16 → record { value = viewRegistry g; next = d } ≡ readRegistry s c → (record { value = viewRegistry g; next = d } ≡ readRegistry s c) × (d .ok ≡ true → wellRegistry g ≡ true)
-registry-read s c b g d m n e = (
-  e,
-  λ o.
-      let good = codes-registry .sound s c b (ap (λ (r : Read Registry). r .next .ok) (sym e) ∙ o) .limits in
-      held-well g (ap (λ (r : Read Registry). goodRegistry (r .value)) e ∙ good) m n,
-)
+pub registry-read : (s : List ℕ) (c : Cursor) → Bytes s → (g : RegistryState) (d : Cursor) → g .configs .count ≤ 8 → g .backers .count ≤ 16 → record { value = viewRegistry g; next = d } ≡ readRegistry s c → (record { value = viewRegistry g; next = d } ≡ readRegistry s c) × ((d .ok ≡ true → wellRegistry g ≡ true) × ((g .configs .count ≤ 8) × (g .backers .count ≤ 16)))
+registry-read s c b g d m n e =
+    let well : d .ok ≡ true → wellRegistry g ≡ true =
+    λ o.
+    let good = codes-registry .sound s c b (ap (λ (r : Read Registry). r .next .ok) (sym e) ∙ o) .limits in
+    held-well g (ap (λ (r : Read Registry). goodRegistry (r .value)) e ∙ good) m n in
+    (e, (well, (m, n)))

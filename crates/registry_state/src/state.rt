@@ -14,7 +14,7 @@ use registry_bytes::writer::write_credential;
 use registry_bytes::writer::write_registry;
 ghost use mathlib.Core.Path.{_≡_};
 ghost use mathlib.Core.Bool.{true};
-ghost use Prim.Native.Nat.{_+_};
+ghost use Prim.Native.Nat.{_+_, _≤_};
 ghost use lib.ListN.{length};
 ghost use Rattle.laws.specs.Room.{room, put};
 ghost use Rattle.events_tel.specs.Configs.{viewConfigs};
@@ -120,10 +120,11 @@ impl RegistryState {
         backers.next
     }
 
-    // What is read keeps to its layout, with counts within the limits.
+    // What is read is well formed, and its counts are within the limits even where it is not all there.
     pub fn read(c: Cursor, s: &[u8]) -> RegistryRead
         ensures read { λ r. ⌜ viewRegistryRead r ≡ readRegistry (now (s .entry)) c ⌝ }
         ensures well { λ r. ⌜ (r .next .ok ≡ true → wellRegistry (r .value) ≡ true) ⌝ }
+        ensures counts { λ r. ⌜ (r .value .configs .count ≤ 8) × (r .value .backers .count ≤ 16) ⌝ }
     {
         let id = c.said(s);
         let issuer = id.next.identifier(s);

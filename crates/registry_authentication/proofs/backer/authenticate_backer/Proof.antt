@@ -20,7 +20,7 @@ returns : tie.Need-returns
 returns c p d =
     let a = c .before .before .before .before .args in
     c .judged .ensures p d
-    ∙ ap (λ (h : Registry). authenticateBacker (viewRegistry (a .g)) (a .seal) (evidenceOf (now (a .s)) (a .evidence) p d h) (signaturesIn (now (a .s)) (a .signatures))) (ap (λ (q : Read Registry). q .value) (c .before .read .ensures))
+    ∙ ap (λ (h : Registry). authenticateBacker (viewRegistry (a .g)) (a .seal) (evidenceOf (now (a .s)) (a .evidence) p d h) (signaturesIn (now (a .s)) (a .signatures))) (ap (λ (q : Read Registry). q .value) (c .before .read .ensures .0))
 
 judged-requires-2 : tie.Need-judged-requires-2
 judged-requires-2 c κs = search needs
