@@ -102,7 +102,8 @@ fn write_backers(out: &mut [u8], backers: Members)
     out[0] = n as u8;
     let mut i: usize = 0;
     while i < n {
-        backers.item(i).0.write(out, 1 + 33 * i);
+        let backer = backers.items[i];
+        backer.0.write(out, 1 + 33 * i);
         i += 1;
     }
 }
