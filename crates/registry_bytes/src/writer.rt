@@ -51,8 +51,9 @@ pub fn write_registry(
     if !has_room(out.len(), at, state_size(configs, backers)) {
         return false;
     }
-    write_head(out, at, a, b, sn, d);
+    // The list is handed on before anything is stored, so that it is copied once.
     write_rest(out, at + 115, toad, configs, backers);
+    write_head(out, at, a, b, sn, d);
     true
 }
 
