@@ -5,8 +5,9 @@
 --     all-sound, sound-all              a rule is kept where no place breaks it, and there alone
 --     broken-rule, broken-below, broken-breaks, broken-least
 --                                       a refusal names the rule that was checked, and the least place that breaks it
---     until-within, held-is, held-breaks
+--     until-within, held-step, held-breaks
 --                                       the loop that looks for the first place that breaks a rule
+--     repeat-alone                      a repeat is looked for in its own list alone
 --     distinct-sound, sound-distinct, sound-apart
 --                                       a list is sound where no element stands before its place too, and there alone
 --     members-offends, deltas-offends, current-offends
@@ -31,7 +32,7 @@ use Rattle.events.specs.declared.member_set.Rule.{Rule}
 use Rattle.events.specs.declared.member_set.Rule.the-variants.{DuplicateBacker, DuplicateCut, DuplicateAddition, CutAddOverlap, RemovalNotCurrent, AdditionAlreadyPresent}
 use Rattle.events.specs.declared.member_set.Membership.{Membership}
 use Rattle.events.specs.declared.member_set.Membership.the-variants.{Sound, Broken}
-use Rattle.events.specs.Members.{view, noPrefix, at, pushed, has, membershipNumber, breaks, isRepeat, isMissing, held, check, orElse, checkMembers, checkDeltas, checkCurrent, Lists, subject, against, Offends}
+use Rattle.events.specs.Members.{view, noPrefix, at, pushed, has, membershipNumber, breaks, isRepeat, isMissing, check, orElse, checkMembers, checkDeltas, checkCurrent, Lists, subject, against, Offends}
 
 module _ (m : Members) (h : length (m .items) ≡ 16) where
   pub view-size : length (view m) ≡ min (m .count) 16
@@ -151,24 +152,35 @@ module _ (r : Rule) (l o : List BasicPrefix) where
   pub broken-least : (q : Rule) (i : ℕ) → check r l o ≡ Broken q i → (k : ℕ) → k < i → breaks r l o k ≡ false
   broken-least q i e k b = let w = broken-first q i e in first-least P (length l) k (rw (w .1) at b)
 
--- an element is held against no more elements than there are
-pub until-within : (b : Bool) (i n m : ℕ) → (b ≡ true → n ≤ m) → i < n → cond b i m ≤ m
-until-within true i n m h b = omega (arith, h refl)
-until-within false i n m h b = omega arith
+-- an element is held against those before it in its own list, or against all of the other, so against no more than an array has
+pub until-within : (repeat : Bool) (i m k : ℕ) → i ≤ k → m ≤ k → cond repeat i m ≤ k
+until-within true i m k p q = p
+until-within false i m k p q = q
 
--- what a loop over those elements finds says whether the place breaks the rule
-pub held-is : (l o : List BasicPrefix) (repeat missing : Bool) (i : ℕ) (found t : Bool) → found ≡ has (at l i) (take (cond repeat i (length o)) o) → t ≡ cond missing (not found) found → held l o repeat missing i ≡ t
-unfolding held
-held-is l o repeat missing i found t e f = rw (f, e)
+-- one of them more is looked at
+pub held-step : (repeat : Bool) (l o : Members) → length (l .items) ≡ 16 → length (o .items) ≡ 16 → (x : BasicPrefix) (i j : ℕ) → i < length (view l) → j < cond repeat i (length (view o)) → has x (take (j + 1) (cond repeat (view l) (view o))) ≡ (has x (take j (cond repeat (view l) (view o))) || eqPrefix (cond repeat (getD (l .items) j noPrefix) (getD (o .items) j noPrefix)) x)
+held-step true l o p q x i j h b = let c : j < length (view l) = omega arith in rw (view-at l p j c) (has-step x (view l) j c)
+held-step false l o p q x i j h b = rw (view-at o q j b) (has-step x (view o) j b)
 
-pub held-breaks : (r : Rule) (l o : Members) (i : ℕ) → held (view l) (view (cond (isRepeat r) l o)) (isRepeat r) (isMissing r) i ≡ breaks r (view l) (view o) i
-unfolding held breaks
-held-breaks DuplicateBacker l o i = refl
-held-breaks DuplicateCut l o i = refl
-held-breaks DuplicateAddition l o i = refl
-held-breaks CutAddOverlap l o i = rw (take-length (view o))
-held-breaks RemovalNotCurrent l o i = rw (take-length (view o))
-held-breaks AdditionAlreadyPresent l o i = rw (take-length (view o))
+-- whether one of them was found says whether the place breaks the rule
+pub held-breaks : (r : Rule) (l o : List BasicPrefix) (i : ℕ) (found : Bool) → found ≡ has (at l i) (take (cond (isRepeat r) i (length o)) (cond (isRepeat r) l o)) → breaks r l o i ≡ cond (isMissing r) (not found) found
+unfolding breaks
+held-breaks DuplicateBacker l o i found e = sym e
+held-breaks DuplicateCut l o i found e = sym e
+held-breaks DuplicateAddition l o i found e = sym e
+held-breaks CutAddOverlap l o i found e = rw (e, take-length o)
+held-breaks RemovalNotCurrent l o i found e = rw (e, take-length o)
+held-breaks AdditionAlreadyPresent l o i found e = rw (e, take-length o)
+
+-- a repeat is looked for in its own list alone
+pub repeat-alone : (r : Rule) (l o p : List BasicPrefix) → isRepeat r ≡ true → check r l o ≡ check r l p
+unfolding check breaks
+repeat-alone DuplicateBacker l o p e = refl
+repeat-alone DuplicateCut l o p e = refl
+repeat-alone DuplicateAddition l o p e = refl
+repeat-alone CutAddOverlap l o p e = absurd (false≢true e)
+repeat-alone RemovalNotCurrent l o p e = absurd (false≢true e)
+repeat-alone AdditionAlreadyPresent l o p e = absurd (false≢true e)
 
 -- a list is sound where none of its elements stands before its place too, and there alone
 pub sound-distinct : (l : List BasicPrefix) → checkMembers l ≡ Sound → (i : ℕ) → i < length l → has (at l i) (take i l) ≡ false

@@ -76,11 +76,6 @@ isMissing CutAddOverlap = false
 isMissing RemovalNotCurrent = true
 isMissing AdditionAlreadyPresent = false
 
--- whether the element at place i of l is found, or missing, in o: for a repeat, among the elements of o before i
-unfoldable pub held : List BasicPrefix → List BasicPrefix → Bool → Bool → ℕ → Bool
-held l o repeat missing i =
-    cond missing (not (has (at l i) (take (cond repeat i (length o)) o))) (has (at l i) (take (cond repeat i (length o)) o))
-
 -- one rule on a list: sound, or broken at the least place that breaks it
 unfoldable pub check : Rule → List BasicPrefix → List BasicPrefix → Membership
 check r l o = cond (ltb (first (breaks r l o) (length l)) (length l)) (Broken r (first (breaks r l o) (length l))) Sound

@@ -4,10 +4,10 @@ use cesr::primitive::Matter;
 ghost use mathlib.Core.Path.{_≡_};
 ghost use mathlib.Core.Bool.{true, false, cond, not};
 ghost use mathlib.Core.List.{[]};
-ghost use Prim.Native.Nat.{ℕ, _≤_, _<_};
+ghost use Prim.Native.Nat.{_≤_};
 ghost use lib.ListN.{length, take};
 ghost use lib.Dec.{ltb};
-ghost use Rattle.events.specs.Members.{view, noPrefix, at, pushed, has, isRepeat, isMissing, held, check, orElse, checkMembers, checkDeltas, checkCurrent, Offends};
+ghost use Rattle.events.specs.Members.{view, noPrefix, at, pushed, has, isRepeat, isMissing, check, orElse, checkMembers, checkDeltas, checkCurrent, Offends};
 
 // The members are the first `count` of the items.
 #[repr(C)]
@@ -131,7 +131,7 @@ impl MemberSet {
         ensures answer { λ r. ⌜ r ≡ checkMembers (view members) ⌝ }
         ensures offends { λ r. ⌜ Offends r (record { backers = view members; cuts = []; additions = [] }) ⌝ }
     {
-        check_rule(Rule::DuplicateBacker, members, Members::empty())
+        check_rule(Rule::DuplicateBacker, members, members)
     }
 
     // No cut stands twice, no addition stands twice, and no cut is added.
@@ -139,9 +139,8 @@ impl MemberSet {
         ensures answer { λ r. ⌜ r ≡ checkDeltas (view cuts) (view additions) ⌝ }
         ensures offends { λ r. ⌜ Offends r (record { backers = []; cuts = view cuts; additions = view additions }) ⌝ }
     {
-        let none = Members::empty();
-        let cut = check_rule(Rule::DuplicateCut, cuts, none);
-        let addition = check_rule(Rule::DuplicateAddition, additions, none);
+        let cut = check_rule(Rule::DuplicateCut, cuts, cuts);
+        let addition = check_rule(Rule::DuplicateAddition, additions, additions);
         let overlap = check_rule(Rule::CutAddOverlap, cuts, additions);
         or_else(cut, or_else(addition, overlap))
     }
@@ -192,17 +191,17 @@ fn is_missing(rule: Rule) -> bool
     }
 }
 
-// The list that the elements are held against: their own, for a repeat.
-fn held_against(repeat: bool, list: Members, other: Members) -> Members
-    ensures { λ r. ⌜ r ≡ cond repeat list other ⌝ }
+// The element that another is held against at one place: of its own list, for a repeat.
+fn against(repeat: bool, own: BasicPrefix, other: BasicPrefix) -> BasicPrefix
+    ensures { λ r. ⌜ r ≡ cond repeat own other ⌝ }
 {
     if repeat {
-        return list;
+        return own;
     }
     other
 }
 
-// How many of them the element at `i` is held against.
+// How many elements the one at `i` is held against.
 fn until(repeat: bool, i: usize, n: usize) -> usize
     ensures { λ r. ⌜ r ≡ cond repeat i n ⌝ }
 {
@@ -221,12 +220,13 @@ fn differs(found: bool, missing: bool) -> bool
     found
 }
 
-// The first place of the list whose element is found, or missing, among those that it is held against; the list's length where there is none.
+// One rule on a list: the first place that breaks it. A repeat does not look at the other list, so its callers give the list itself.
 // The two loops are in one function, since a list is copied at every call.
-fn first_place(list: Members, other: Members, repeat: bool, missing: bool) -> usize
-    requires { ⌜ (repeat ≡ true → length (view list) ≤ length (view other)) ⌝ }
-    ensures { λ r. ⌜ (r ≤ length (view list)) × ((k : ℕ) → k < r → held (view list) (view other) repeat missing k ≡ false) × (r < length (view list) → held (view list) (view other) repeat missing r ≡ true) ⌝ }
+fn check_rule(rule: Rule, list: Members, other: Members) -> Membership
+    ensures { λ r. ⌜ r ≡ check rule (view list) (view other) ⌝ }
 {
+    let repeat = is_repeat(rule);
+    let missing = is_missing(rule);
     let n = list.size();
     let m = other.size();
     let mut i: usize = 0;
@@ -236,27 +236,13 @@ fn first_place(list: Members, other: Members, repeat: bool, missing: bool) -> us
         let mut found = false;
         let mut j: usize = 0;
         while j < end {
-            found = found | other.items[j].same(x);
+            found = found | against(repeat, list.items[j], other.items[j]).same(x);
             j += 1;
         }
         if differs(found, missing) {
-            return i;
+            return Membership::Broken { rule, at: i };
         }
         i += 1;
-    }
-    n
-}
-
-// One rule on a list: the first place that breaks it.
-fn check_rule(rule: Rule, list: Members, other: Members) -> Membership
-    ensures { λ r. ⌜ r ≡ check rule (view list) (view other) ⌝ }
-{
-    let repeat = is_repeat(rule);
-    let missing = is_missing(rule);
-    let against = held_against(repeat, list, other);
-    let at = first_place(list, against, repeat, missing);
-    if at < list.size() {
-        return Membership::Broken { rule, at };
     }
     Membership::Sound
 }

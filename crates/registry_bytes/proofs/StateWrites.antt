@@ -6,10 +6,10 @@
 use Prim.Native.Nat.{ℕ, suc, _+_, _-_, _*_, _<_, _≤_}
 use mathlib.Core.Path.{_≡_, refl, ap, sym, _∙_}
 use mathlib.Core.List.{List, [], _∷_, _++_, append-assoc, append-nil}
-use native.Mathlib.Nat.{add-assoc, add-suc, add-zero, le-add-right, mul-zero, mul-suc}
+use native.Mathlib.Nat.{add-assoc, add-suc, suc-add, add-zero, le-add-right, mul-zero, mul-suc}
 use native.Mathlib.Omega.{arith}
 use lib.ListN.{length, getD, take, drop, set, length-append, length-drop, take-append-drop, drop-of-length-le}
-use lib.Seq.{sets, length-sets, length-take-le, take-all, take-set-le, drop-set-add}
+use lib.Seq.{sets, set-comm, length-sets, length-take-le, take-all, take-set-le, drop-set-add}
 use borrow.Rule.Slice.PartMut.{putMid, midOf}
 use Rattle.laws.specs.Number.{digits}
 use Rattle.laws.specs.Room.{put}
@@ -120,6 +120,22 @@ rest-sets l at toad configs backers h =
     let p : put l at (digits 4 toad) ≡ sets l at (digits 4 toad) = put-sets l at 4 (digits 4 toad) (length-digits 4 toad) h in
     rw (p, sets-append, length-digits, sets-append, length-configs, add-assoc (at + 4) 1 (length configs))
 
-pub state-sets : (l : List ℕ) (at : ℕ) (a b : Matter) (n : Sn) (d : Matter) (toad : ℕ) (configs : List ℕ) (backers : List BasicPrefix) → sets (sets l at (headBytes a b n d)) (at + 115) (restBytes toad configs backers) ≡ sets l at (stateBytes a b n d toad configs backers)
+-- a store before a run of stores may go first
+set-before : (l : List ℕ) (i j v : ℕ) (ws : List ℕ) → i < j → set (sets l j ws) i v ≡ sets (set l i v) j ws
+set-before l i j v [] h = refl
+set-before l i j v (w ∷ ws) h =
+    set-before (set l j w) i (suc j) v ws (omega arith) ∙ ap (λ (m : List ℕ). sets m (suc j) ws) (set-comm l j i w v (λ e. omega (arith, e)))
+
+-- of two runs of stores, one behind the other, the second may go first
+sets-before : (l : List ℕ) (at : ℕ) (vs ws : List ℕ) → sets (sets l (at + length vs) ws) at vs ≡ sets l at (vs ++ ws)
+sets-before l at [] ws = rw add-zero
+sets-before l at (v ∷ vs) ws =
+    ap (λ (m : List ℕ). sets m (suc at) vs) (set-before l at (at + suc (length vs)) v ws (omega arith))
+    ∙ ap (λ (k : ℕ). sets (sets (set l at v) k ws) (suc at) vs) (add-suc at (length vs) ∙ sym (suc-add at (length vs)))
+    ∙ sets-before (set l at v) (suc at) vs ws
+
+pub state-sets : (l : List ℕ) (at : ℕ) (a b : Matter) (n : Sn) (d : Matter) (toad : ℕ) (configs : List ℕ) (backers : List BasicPrefix) → sets (sets l (at + 115) (restBytes toad configs backers)) at (headBytes a b n d) ≡ sets l at (stateBytes a b n d toad configs backers)
 unfolding stateBytes
-state-sets l at a b n d toad configs backers = rw (sets-append, length-head)
+state-sets l at a b n d toad configs backers =
+    ap (λ (k : ℕ). sets (sets l (at + k) (restBytes toad configs backers)) at (headBytes a b n d)) (sym (length-head a b n d))
+    ∙ sets-before l at (headBytes a b n d) (restBytes toad configs backers)

@@ -51,8 +51,9 @@ pub fn write_registry(
     if !has_room(out.len(), at, state_size(configs, backers)) {
         return false;
     }
-    write_head(out, at, a, b, sn, d);
+    // The list is handed on before anything is stored, so that it is copied once.
     write_rest(out, at + 115, toad, configs, backers);
+    write_head(out, at, a, b, sn, d);
     true
 }
 
@@ -102,7 +103,8 @@ fn write_backers(out: &mut [u8], backers: Members)
     out[0] = n as u8;
     let mut i: usize = 0;
     while i < n {
-        backers.item(i).0.write(out, 1 + 33 * i);
+        let backer = backers.items[i];
+        backer.0.write(out, 1 + 33 * i);
         i += 1;
     }
 }

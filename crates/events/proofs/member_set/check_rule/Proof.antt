@@ -1,51 +1,170 @@
 use borrow.Author.Needs.{needs}
-use Prim.Native.Nat.{ℕ}
-use mathlib.Core.Path.{_≡_, sym, _∙_}
+use Prim.Native.Nat.{ℕ, _≤_, _<_, _-_}
+use mathlib.Core.Path.{_≡_, refl, ap, sym, _∙_}
+use mathlib.Core.Bool.{false, cond}
 use native.Mathlib.Omega.{arith}
-use Rattle.events.specs.Members.{view, held, breaks}
-use Rattle.events.proofs.Members.{check-found, all-sound, held-breaks}
+use borrow.Author.Count.{below-more}
+use lib.ListN.{length, take}
+use Rattle.laws.proofs.Views.{length-mapped}
+use Rattle.events.specs.Members.{view, has, breaks}
+use Rattle.events.proofs.Members.{view-at, until-within, held-step, held-breaks, check-found, all-sound}
 use Rattle.events.proofs.member_set.check_rule.Statement.{statement}
 use Rattle.events.proofs.member_set.check_rule.Tie as tie
 
--- what the search looks for is what breaks the rule
-breaking : (c : tie.After-first-place) (k : ℕ) → breaks (c .before .before .before .before .args .rule) (view (c .before .before .before .before .args .list)) (view (c .before .before .before .before .args .other)) k ≡ held (view (c .before .before .before .before .args .list)) (view (c .before .held-against .result)) (c .before .before .before .is-repeat .result) (c .before .before .is-missing .result) k
-breaking c k = rw (c .before .held-against .ensures, c .before .before .before .is-repeat .ensures, c .before .before .is-missing .ensures) (sym (held-breaks _ _ _ k))
+abbrev Inv-loop2 : tie.InvT-loop2
+Inv-loop2 rule list other repeat missing n m i x end found₀ j₀ found j = (j ≤ end) × (found ≡ has x (take j (cond repeat (view list) (view other))))
 
-is-repeat-requires : tie.Need-is-repeat-requires
+abbrev μ-loop2 : tie.MeasureT-loop2
+μ-loop2 rule list other repeat missing n m i x end found₀ j₀ found j = end - j
+
+abbrev Inv-loop : tie.InvT-loop
+Inv-loop rule list other repeat missing n m i₀ i = (i ≤ n) × ((k : ℕ) → k < i → breaks rule (view list) (view other) k ≡ false)
+
+abbrev μ-loop : tie.MeasureT-loop
+μ-loop rule list other repeat missing n m i₀ i = n - i
+
+full : (c : tie.Start Inv-loop2 μ-loop2 Inv-loop μ-loop) → (length (c .args .t2 .items) ≡ 16) × (length (c .args .t3 .items) ≡ 16)
+full c = (search length-mapped, search length-mapped)
+
+-- where the inner loop ends, and that an array has so many elements
+ends : (c : tie.After-until Inv-loop2 μ-loop2 Inv-loop μ-loop) → let r = c .before .before .before .before .before .before .before in c .until .result ≡ cond (r .is-repeat .result) (c .before .before .before .loop .i) (length (view (r .before .args .t3)))
+ends c =
+    let l = c .before .before .before in
+    c .until .ensures ∙ ap (λ (m : ℕ). cond (l .before .before .before .before .is-repeat .result) (l .loop .i) m) (l .before .size2 .ensures .0)
+
+within : (c : tie.After-until Inv-loop2 μ-loop2 Inv-loop μ-loop) → c .until .result ≤ 16
+within c =
+    let l = c .before .before .before in
+    rw (c .until .ensures) (until-within (l .before .before .before .before .is-repeat .result) (l .loop .i) (l .before .size2 .result) 16 (omega arith) (omega arith))
+
+-- whether the place breaks the rule is what the inner loop found
+place : (c : tie.After-differs Inv-loop2 μ-loop2 Inv-loop μ-loop) → let l = c .before .before .before .before .before .before in let a = l .before .before .before .before .before .args in breaks (a .rule) (view (a .t2)) (view (a .t3)) (l .loop .i) ≡ c .differs .result
+place c =
+    let u = c .before .before .before in
+    let l = u .before .before .before in
+    let r = l .before .before .before .before in
+    let s = r .before in
+    let f = c .before .before .loop2 in
+    let i = l .loop .i in
+    let e : u .until .result ≡ f .j = omega arith in
+    let x = view-at (s .args .t2) (full s .0) i (omega arith) in
+    held-breaks (s .args .rule) (view (s .args .t2)) (view (s .args .t3)) i (f .found) (rw (← r .is-repeat .ensures, ← x, ← ends u, e) (f .inv .1))
+    ∙ rw (c .differs .ensures, l .before .before .before .is-missing .ensures)
+
+is-repeat-requires : tie.Need-is-repeat-requires Inv-loop2 μ-loop2 Inv-loop μ-loop
 is-repeat-requires c κs = search needs
 
-is-missing-requires : tie.Need-is-missing-requires
+is-missing-requires : tie.Need-is-missing-requires Inv-loop2 μ-loop2 Inv-loop μ-loop
 is-missing-requires c κs = search needs
 
-held-against-requires : tie.Need-held-against-requires
-held-against-requires c κs = search needs
-
-first-place-requires : tie.Need-first-place-requires
-first-place-requires c κs = λ e. rw (c .held-against .ensures, e) (omega arith)
-
-size-requires : tie.Need-size-requires
+size-requires : tie.Need-size-requires Inv-loop2 μ-loop2 Inv-loop μ-loop
 size-requires c κs = search needs
 
-returns : tie.Need-returns
-returns c =
-    let f = c .before .before in
-    let a = f .before .before .before .before .args in
-    sym (check-found (a .rule) (view (a .list)) (view (a .other)) _ (omega arith) (λ k h. breaking f k ∙ f .first-place .ensures .1 k h) (breaking f _ ∙ f .first-place .ensures .2 (omega arith)))
+size-requires-2 : tie.Need-size-requires-2 Inv-loop2 μ-loop2 Inv-loop μ-loop
+size-requires-2 c κs = search needs
 
-returns-2 : tie.Need-returns-2
+loop-holds : tie.Need-loop-holds Inv-loop2 μ-loop2 Inv-loop μ-loop
+loop-holds c = (search needs, λ k h. absurd (omega arith))
+
+mul-x : tie.Need-mul-x Inv-loop2 μ-loop2 Inv-loop μ-loop
+mul-x c = search needs
+
+element-copy-out-x : tie.Need-element-copy-out-x Inv-loop2 μ-loop2 Inv-loop μ-loop
+element-copy-out-x c = search needs
+
+until-requires : tie.Need-until-requires Inv-loop2 μ-loop2 Inv-loop μ-loop
+until-requires c κs = search needs
+
+loop2-holds : tie.Need-loop2-holds Inv-loop2 μ-loop2 Inv-loop μ-loop
+unfolding has
+loop2-holds c = (search needs, refl)
+
+mul-against : tie.Need-mul-against Inv-loop2 μ-loop2 Inv-loop μ-loop
+mul-against c = omega (arith, within (c .before .before))
+
+element-copy-out-against : tie.Need-element-copy-out-against Inv-loop2 μ-loop2 Inv-loop μ-loop
+element-copy-out-against c = omega (arith, within (c .before .before))
+
+mul-against-2 : tie.Need-mul-against-2 Inv-loop2 μ-loop2 Inv-loop μ-loop
+mul-against-2 c = omega (arith, within (c .before .before .before))
+
+element-copy-out-against-2 : tie.Need-element-copy-out-against-2 Inv-loop2 μ-loop2 Inv-loop μ-loop
+element-copy-out-against-2 c = omega (arith, within (c .before .before .before))
+
+against-requires : tie.Need-against-requires Inv-loop2 μ-loop2 Inv-loop μ-loop
+against-requires c κs = search needs
+
+same-requires : tie.Need-same-requires Inv-loop2 μ-loop2 Inv-loop μ-loop
+same-requires c κs = search needs
+
+add-j : tie.Need-add-j Inv-loop2 μ-loop2 Inv-loop μ-loop
+add-j c = search needs
+
+loop2-less : tie.Need-loop2-less Inv-loop2 μ-loop2 Inv-loop μ-loop
+loop2-less c = search needs
+
+loop2-again : tie.Need-loop2-again Inv-loop2 μ-loop2 Inv-loop μ-loop
+loop2-again c =
+    let u = c .before .before .before .before .before .before in
+    let l = u .before .before .before in
+    let r = l .before .before .before .before in
+    let s = r .before in
+    let f = c .before .before .before .before .before .loop2 in
+    (search needs, sym (held-step (r .is-repeat .result) (s .args .t2) (s .args .t3) (full s .0) (full s .1) _ (l .loop .i) (f .j) (omega arith) (omega (arith, ends u)) ∙ rw (← f .inv .1, ← c .before .against .ensures, ← c .same .ensures)))
+
+differs-requires : tie.Need-differs-requires Inv-loop2 μ-loop2 Inv-loop μ-loop
+differs-requires c κs = search needs
+
+returns : tie.Need-returns Inv-loop2 μ-loop2 Inv-loop μ-loop
+returns c =
+    let l = c .before .before .before .before .before .before .before in
+    let a = l .before .before .before .before .before .args in
+    sym (check-found (a .rule) (view (a .t2)) (view (a .t3)) (l .loop .i) (omega arith) (l .loop .inv .1) (place (c .before) ∙ c .if1 .taken))
+
+add-i : tie.Need-add-i Inv-loop2 μ-loop2 Inv-loop μ-loop
+add-i c = search needs
+
+loop-less : tie.Need-loop-less Inv-loop2 μ-loop2 Inv-loop μ-loop
+loop-less c = search needs
+
+loop-again : tie.Need-loop-again Inv-loop2 μ-loop2 Inv-loop μ-loop
+loop-again c = (search needs, below-more _ _ (c .before .before .before .before .before .before .before .loop .inv .1) (place (c .before) ∙ c .if1 .left))
+
+returns-2 : tie.Need-returns-2 Inv-loop2 μ-loop2 Inv-loop μ-loop
 returns-2 c =
-    let f = c .before .before in
-    let a = f .before .before .before .before .args in
-    sym (all-sound (a .rule) (view (a .list)) (view (a .other)) (λ k h. breaking f k ∙ f .first-place .ensures .1 k (omega arith)))
+    let l = c .before in
+    let a = l .before .before .before .before .before .args in
+    sym (all-sound (a .rule) (view (a .t2)) (view (a .t3)) (λ k h. l .loop .inv .1 k (omega arith)))
 
 pub check-rule-spec : {M : Type 1} → statement M
 check-rule-spec =
     tie.close
     (tie.spec
+    Inv-loop2
+    μ-loop2
+    Inv-loop
+    μ-loop
     is-repeat-requires
     is-missing-requires
-    held-against-requires
-    first-place-requires
     size-requires
+    size-requires-2
+    loop-holds
+    mul-x
+    element-copy-out-x
+    until-requires
+    loop2-holds
+    mul-against
+    element-copy-out-against
+    mul-against-2
+    element-copy-out-against-2
+    against-requires
+    same-requires
+    add-j
+    loop2-less
+    loop2-again
+    differs-requires
     returns
+    add-i
+    loop-less
+    loop-again
     returns-2)

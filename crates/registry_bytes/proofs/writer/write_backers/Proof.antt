@@ -1,10 +1,12 @@
-use Prim.Native.Nat.{_≤_, _-_}
+use Prim.Native.Nat.{_≤_, _<_, _-_}
 use mathlib.Core.Path.{_≡_, refl, _∙_}
 use native.Mathlib.Omega.{arith}
 use borrow.Author.Needs.{needs}
 use lib.ListN.{length, take, length-set}
 use lib.Seq.{sets, take-all}
+use Rattle.laws.proofs.Views.{length-mapped}
 use Rattle.events.specs.Members.{view}
+use Rattle.events.proofs.Members.{view-at}
 use Rattle.codec.specs.Layout.{joined, sectionBytes, prefixBytes}
 use Rattle.registry_bytes.proofs.StateWrites.{backer-step}
 use Rattle.registry_bytes.proofs.writer.write_backers.Statement.{statement}
@@ -15,6 +17,9 @@ Inv-loop out₀ backers n i₀ out i = (i ≤ n) × (length out ≡ length out�
 
 abbrev μ-loop : tie.MeasureT-loop
 μ-loop out₀ backers n i₀ out i = n - i
+
+full : (c : tie.Start Inv-loop μ-loop) → length (c .args .t2 .items) ≡ 16
+full c = search length-mapped
 
 size-requires : tie.Need-size-requires Inv-loop μ-loop
 size-requires c κs = search needs
@@ -29,8 +34,11 @@ loop-holds : tie.Need-loop-holds Inv-loop μ-loop
 unfolding joined
 loop-holds c = (search needs, refl, refl)
 
-item-requires : tie.Need-item-requires Inv-loop μ-loop
-item-requires c κs = search needs
+mul-backer : tie.Need-mul-backer Inv-loop μ-loop
+mul-backer c = search needs
+
+element-copy-out-backer : tie.Need-element-copy-out-backer Inv-loop μ-loop
+element-copy-out-backer c = search needs
 
 mul-write : tie.Need-mul-write Inv-loop μ-loop
 mul-write c = search needs
@@ -50,11 +58,12 @@ loop-less c = search needs
 loop-again : tie.Need-loop-again Inv-loop μ-loop
 loop-again c =
     let w = c .before .before in
-    let i = w .before .before in
-    let b6 = i .before .before in
-    let a = b6 .before .before .before .args in
+    let b6 = w .before .before .before .before in
+    let s = b6 .before .before .before in
+    let m = s .args .t2 in
     let l = b6 .loop in
-    (search needs, w .write .kept .1 .0 ∙ l .inv .1, w .write .ensures .1 ∙ rw (l .inv .2, i .item .ensures) (backer-step _ (view (a .backers)) (l .i) (omega (arith, b6 .before .size .ensures)) (rw length-set (b6 .before .before .before .pre))))
+    let h : l .i < length (view m) = omega (arith, b6 .before .size .ensures) in
+    (search needs, w .write .kept .1 .0 ∙ l .inv .1, w .write .ensures .1 ∙ rw (l .inv .2, view-at m (full s) (l .i) h) (backer-step _ (view m) (l .i) h (rw length-set (s .pre))))
 
 same-length : tie.Need-same-length Inv-loop μ-loop
 same-length c = simp length-set at (c .before .loop .inv .1)
@@ -65,7 +74,7 @@ returns c =
     let b1 = c .before in
     let s = b1 .before in
     let a = s .before .before .args in
-    b1 .loop .inv .2 ∙ rw (s .size .ensures .0, take-all (b1 .loop .i) (view (a .backers)) (omega (arith, s .size .ensures)))
+    b1 .loop .inv .2 ∙ rw (s .size .ensures .0, take-all (b1 .loop .i) (view (a .t2)) (omega (arith, s .size .ensures)))
 
 pub write-backers-spec : {M : Type 1} → statement M
 write-backers-spec =
@@ -77,7 +86,8 @@ write-backers-spec =
     cast-out
     slice-write-out
     loop-holds
-    item-requires
+    mul-backer
+    element-copy-out-backer
     mul-write
     add-write
     write-requires

@@ -12,7 +12,7 @@ use lib.Seq.{sets}
 use Rattle.laws.proofs.Room.{stored, refused}
 use Rattle.events_tel.specs.Configs.{viewConfigs}
 use Rattle.events.specs.Members.{view}
-use Rattle.registry_bytes.specs.StateBytes.{restBytes, stateBytes}
+use Rattle.registry_bytes.specs.StateBytes.{headBytes, stateBytes}
 use Rattle.registry_bytes.proofs.StateWrites.{length-state, state-sets}
 use Rattle.registry_bytes.proofs.writer.write_registry.Statement.{statement}
 use Rattle.registry_bytes.proofs.writer.write_registry.Tie as tie
@@ -34,10 +34,10 @@ holds c =
     rw (size-bytes (c .before .before .before .before), ← c .before .before .state-size .ensures)
     (sym (c .before .has-room .ensures) ∙ not-false _ (c .if1 .left))
 
-fits : (c : tie.Else1) → let s = c .before .before .before .before in s .args .at + length (bytes s) ≤ length (now (s .args .out))
+fits : (c : tie.Else1) → let s = c .before .before .before .before in s .args .at + (121 + length (viewConfigs (s .args .configs)) + 33 * length (view (s .args .backers))) ≤ length (now (s .args .out))
 fits c =
     let s = c .before .before .before .before in
-    leb-true (s .args .at + length (bytes s)) (length (now (s .args .out))) (holds c)
+    rw (← size-bytes s) (leb-true (s .args .at + length (bytes s)) (length (now (s .args .out))) (holds c))
 
 state-size-requires : tie.Need-state-size-requires
 state-size-requires c κs = search needs
@@ -52,21 +52,16 @@ returns c =
     refused (now (s .args .out)) (s .args .at) (length (bytes s)) (bytes s) refl
     (rw (size-bytes s, ← b2 .state-size .ensures) (sym (c .before .has-room .ensures) ∙ not-true _ (c .if1 .taken)))
 
-write-head-requires : tie.Need-write-head-requires
-write-head-requires c κs =
-    let b1 = c .before in
-    omega (arith, fits b1, size-bytes (b1 .before .before .before .before))
-
 add-write-rest : tie.Need-add-write-rest
-add-write-rest c =
-    let b5 = c .before .before .before .before .before in
-    omega (arith, fits b5, size-bytes (b5 .before .before .before .before))
+add-write-rest c = omega (arith, fits (c .before))
 
 write-rest-requires : tie.Need-write-rest-requires
-write-rest-requires c κs =
+write-rest-requires c κs = omega (arith, fits (c .before))
+
+write-head-requires : tie.Need-write-head-requires
+write-head-requires c κs =
     let b3 = c .before .before .before in
-    let b5 = b3 .before .before in
-    omega (arith, fits b5, size-bytes (b5 .before .before .before .before), b3 .write-head .kept .0)
+    omega (arith, fits (b3 .before .before), b3 .write-rest .kept .0)
 
 same-length : tie.Need-same-length
 same-length c = search needs
@@ -79,9 +74,9 @@ returns-2 c =
     let s = b8 .before .before .before .before in
     let a = s .args in
     stored (now (a .out)) (a .at) (length (bytes s)) (bytes s) _ refl (holds b8)
-    (_∙_ {b = sets (b6 .write-head .last .0) (a .at + 115) (restBytes (a .toad .0) (viewConfigs (a .configs)) (view (a .backers)))}
-    (b2 .write-rest .ensures)
-    (rw (b6 .write-head .ensures)
+    (_∙_ {b = sets (b6 .write-rest .last .0) (a .at) (headBytes (a .a) (a .b) (a .sn) (a .d))}
+    (b2 .write-head .ensures)
+    (rw (b6 .write-rest .ensures)
     (state-sets (now (a .out)) (a .at) (a .a) (a .b) (a .sn) (a .d) (a .toad .0) (viewConfigs (a .configs)) (view (a .backers)))))
 
 pub write-registry-spec : {M : Type 1} → statement M
@@ -91,8 +86,8 @@ write-registry-spec =
     state-size-requires
     has-room-requires
     returns
-    write-head-requires
     add-write-rest
     write-rest-requires
+    write-head-requires
     same-length
     returns-2)

@@ -1,12 +1,11 @@
 use borrow.Author.Needs.{needs}
-use mathlib.Core.Path.{_≡_}
-use Rattle.events.specs.Members.{view, checkDeltas}
-use Rattle.events.proofs.Members.{deltas-offends}
+use mathlib.Core.Path.{_≡_, refl, _∙_}
+use mathlib.Core.List.{[]}
+use Rattle.events.specs.declared.member_set.Rule.the-variants.{DuplicateCut, DuplicateAddition}
+use Rattle.events.specs.Members.{view, check, checkDeltas}
+use Rattle.events.proofs.Members.{repeat-alone, deltas-offends}
 use Rattle.events.proofs.member_set.MemberSet.check_deltas.Statement.{statement}
 use Rattle.events.proofs.member_set.MemberSet.check_deltas.Tie as tie
-
-empty-requires : tie.Need-empty-requires
-empty-requires c κs = search needs
 
 check-rule-requires : tie.Need-check-rule-requires
 check-rule-requires c κs = search needs
@@ -30,17 +29,17 @@ returns c =
     let b2 = b1 .before in
     let b3 = b2 .before in
     let b4 = b3 .before in
-    let b5 = b4 .before in
-    let cuts = view (b5 .before .args .cuts) in
-    let additions = view (b5 .before .args .additions) in
-    let e : c .or-else2 .result ≡ checkDeltas cuts additions = rw (c .or-else2 .ensures, b1 .or-else .ensures, b2 .check-rule3 .ensures, b3 .check-rule2 .ensures, b4 .check-rule .ensures, b5 .empty .ensures) in
+    let cuts = view (b4 .before .args .cuts) in
+    let additions = view (b4 .before .args .additions) in
+    let cut : b4 .check-rule .result ≡ check DuplicateCut cuts [] = b4 .check-rule .ensures ∙ repeat-alone DuplicateCut cuts cuts [] refl in
+    let addition : b3 .check-rule2 .result ≡ check DuplicateAddition additions [] = b3 .check-rule2 .ensures ∙ repeat-alone DuplicateAddition additions additions [] refl in
+    let e : c .or-else2 .result ≡ checkDeltas cuts additions = rw (c .or-else2 .ensures, b1 .or-else .ensures, b2 .check-rule3 .ensures, addition, cut) in
     (e, rw e (deltas-offends cuts additions))
 
 pub check-deltas-spec : {M : Type 1} → statement M
 check-deltas-spec =
     tie.close
     (tie.spec
-    empty-requires
     check-rule-requires
     check-rule-requires-2
     check-rule-requires-3
