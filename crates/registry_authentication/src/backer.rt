@@ -3,6 +3,7 @@ use cesr::number::Sn;
 use cesr::primitive::Said;
 use codec_cursor::cursor::Cursor;
 use events::member_set::MemberSet;
+use events::member_set::Members;
 use events::seal::Seal;
 use events_toad::toad::Toad;
 use registry_answer::answer::accept_if;
@@ -17,11 +18,12 @@ ghost use Prim.Native.Nat.{ℕ, min};
 ghost use mathlib.Core.Path.{_≡_};
 ghost use mathlib.Core.List.{List};
 ghost use Rattle.cesr.specs.declared.primitive.Matter.{Matter};
+ghost use Rattle.events.specs.Members.{view};
 ghost use Rattle.registry_state.specs.States.{viewRegistry};
 ghost use Rattle.registry_wire.specs.Attempts.{evidenceOf, evidenceAs};
 ghost use Rattle.registry_seals.specs.SignatureSections.{signaturesIn};
 ghost use Rattle.registry_wire.specs.declared.attempt.Part.{Part};
-ghost use Rattle.registry_authentication.specs.Backers.{isBackerless, sameRegistry, standsAt, resolvedBy, namesRegistry, resolved, authority, enoughReceipts, backedBy, authenticateBacker};
+ghost use Rattle.registry_authentication.specs.Backers.{isBackerless, sameRegistry, standsAt, resolvedBy, namesRegistry, resolved, enoughReceipts, backedBy, authenticateBacker};
 
 // Whether the trait NoBackers is set. The list of backers is not looked at.
 pub fn is_backerless(g: RegistryState) -> bool
@@ -106,16 +108,6 @@ pub fn resolved(g: RegistryState, seal: Seal, evidence: u8, management: Registry
     }
 }
 
-// The state whose backers and toad are used.
-pub fn authority(g: RegistryState, evidence: u8, management: RegistryState) -> RegistryState
-    ensures { λ r. ⌜ ((b : List ℕ) (p : Matter) (c : Part) → viewRegistry r ≡ authority (viewRegistry g) (evidenceOf b evidence p c (viewRegistry management))) ⌝ }
-{
-    if evidence == 3 {
-        return management;
-    }
-    g
-}
-
 // Whether a toad is met by the good signatures of so many backers.
 pub fn enough_receipts(s: &[u8], signatures: Counted, backers: usize, toad: Toad) -> Answer
     ensures { λ r. ⌜ r ≡ enoughReceipts (toad .0) (min backers 16) (signaturesIn (now (s .entry)) signatures) ⌝ }
@@ -130,11 +122,9 @@ pub fn enough_receipts(s: &[u8], signatures: Counted, backers: usize, toad: Toad
 }
 
 // The rules on the authority's backers and toad, and its receipts.
-pub fn backed_by(s: &[u8], signatures: Counted, g: RegistryState) -> Answer
-    ensures { λ r. ⌜ r ≡ backedBy (viewRegistry g) (signaturesIn (now (s .entry)) signatures) ⌝ }
+pub fn backed_by(s: &[u8], signatures: Counted, backers: Members, toad: Toad) -> Answer
+    ensures { λ r. ⌜ r ≡ backedBy (toad .0) (view backers) (signaturesIn (now (s .entry)) signatures) ⌝ }
 {
-    let backers = g.backers;
-    let toad = g.toad;
     let members = backer_set(MemberSet::check_members(backers));
     let count = backers.size();
     let exact = toad.is_exact(count);
@@ -146,23 +136,7 @@ pub fn backed_by(s: &[u8], signatures: Counted, g: RegistryState) -> Answer
     )
 }
 
-// The authority that the event's seal and the evidence name, and what it must have signed; where the evidence is BackerAt, the state that it holds.
-fn judged(
-    s: &[u8],
-    signatures: Counted,
-    g: RegistryState,
-    seal: Seal,
-    evidence: u8,
-    management: RegistryState,
-) -> Answer
-    ensures { λ r. ⌜ ((p : Matter) (c : Part) → r ≡ authenticateBacker (viewRegistry g) seal (evidenceOf (now (s .entry)) evidence p c (viewRegistry management)) (signaturesIn (now (s .entry)) signatures)) ⌝ }
-{
-    let found = resolved(g, seal, evidence, management);
-    let backed = backed_by(s, signatures, authority(g, evidence, management));
-    or_else(found, or_else(backed, Answer::Accepted))
-}
-
-// The same by the place of BackerAt's state in the bytes, which is read where it is used.
+// The authority that the event's seal and the evidence name, and what it must have signed. BackerAt's state is read from its place in the bytes where it is used. Its list alone is handed on, since a state is copied at every call.
 pub fn authenticate_backer(
     s: &[u8],
     signatures: Counted,
@@ -175,7 +149,11 @@ pub fn authenticate_backer(
 {
     if evidence == 3 {
         let held = RegistryState::read(management, s);
-        return judged(s, signatures, g, seal, evidence, held.value);
+        let found = resolved(g, seal, evidence, held.value);
+        let backed = backed_by(s, signatures, held.value.backers, held.value.toad);
+        return or_else(found, or_else(backed, Answer::Accepted));
     }
-    judged(s, signatures, g, seal, evidence, g)
+    let found = resolved(g, seal, evidence, g);
+    let backed = backed_by(s, signatures, g.backers, g.toad);
+    or_else(found, or_else(backed, Answer::Accepted))
 }
