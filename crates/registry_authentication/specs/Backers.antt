@@ -9,6 +9,7 @@ use Rattle.cesr.specs.Numbers.{value}
 use Rattle.cesr.specs.Primitives.{eqMatter, eqSaid}
 use Rattle.cesr.specs.declared.number.Sn.{Sn}
 use Rattle.cesr.specs.declared.primitive.Said.{Said}
+use Rattle.cesr.specs.declared.primitive.BasicPrefix.{BasicPrefix}
 use Rattle.events.specs.Identifiers.{matterOf}
 use Rattle.events.specs.Members.{checkMembers}
 use Rattle.events_toad.specs.Toads.{exactOk}
@@ -77,15 +78,15 @@ authority g (backerAt h) = h
 unfoldable pub enoughReceipts : ℕ → ℕ → List Signature → Answer
 enoughReceipts toad backers l = acceptIf (leb toad (receipts backers l)) (MissingBackerReceipts (receipts backers l) toad)
 
--- 24, 26, 27 of the authority
-unfoldable pub backedBy : Registry → List Signature → Answer
-backedBy g l =
+-- 24, 26, 27 of the authority's toad and backers
+unfoldable pub backedBy : ℕ → List BasicPrefix → List Signature → Answer
+backedBy toad backers l =
     firstOf
-    (backerSet (checkMembers (g .backers))
-    ∷ acceptIf (exactOk (g .toad) (length (g .backers))) BackerThreshold
-    ∷ enoughReceipts (g .toad) (length (g .backers)) l
+    (backerSet (checkMembers backers)
+    ∷ acceptIf (exactOk toad (length backers)) BackerThreshold
+    ∷ enoughReceipts toad (length backers) l
     ∷ [])
 
 -- 22 to 27 of bis and brv
 unfoldable pub authenticateBacker : Registry → Seal → Evidence → List Signature → Answer
-authenticateBacker g seal e l = firstOf (resolved g seal e ∷ backedBy (authority g e) l ∷ [])
+authenticateBacker g seal e l = firstOf (resolved g seal e ∷ backedBy (authority g e .toad) (authority g e .backers) l ∷ [])

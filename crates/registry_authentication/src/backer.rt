@@ -14,17 +14,16 @@ use registry_error::error::RegistryRejection;
 use registry_seals::signatures::Counted;
 use registry_state::state::RegistryState;
 use registry_verification::verification::valid_receipts;
-ghost use Prim.Native.Nat.{ℕ};
+ghost use Prim.Native.Nat.{ℕ, min};
 ghost use mathlib.Core.Path.{_≡_};
 ghost use mathlib.Core.List.{List};
-ghost use lib.ListN.{length};
 ghost use Rattle.cesr.specs.declared.primitive.Matter.{Matter};
 ghost use Rattle.events.specs.Members.{view};
 ghost use Rattle.registry_state.specs.States.{viewRegistry};
 ghost use Rattle.registry_wire.specs.Attempts.{evidenceOf, evidenceAs};
 ghost use Rattle.registry_seals.specs.SignatureSections.{signaturesIn};
 ghost use Rattle.registry_wire.specs.declared.attempt.Part.{Part};
-ghost use Rattle.registry_authentication.specs.Backers.{isBackerless, sameRegistry, standsAt, resolvedBy, namesRegistry, resolved, authority, enoughReceipts, backedBy, authenticateBacker};
+ghost use Rattle.registry_authentication.specs.Backers.{isBackerless, sameRegistry, standsAt, resolvedBy, namesRegistry, resolved, enoughReceipts, backedBy, authenticateBacker};
 
 // Whether the trait NoBackers is set. The list of backers is not looked at.
 pub fn is_backerless(g: RegistryState) -> bool
@@ -109,19 +108,9 @@ pub fn resolved(g: RegistryState, seal: Seal, evidence: u8, management: Registry
     }
 }
 
-// The state whose backers and toad are used.
-pub fn authority(g: RegistryState, evidence: u8, management: RegistryState) -> RegistryState
-    ensures { λ r. ⌜ ((b : List ℕ) (p : Matter) (c : Part) → viewRegistry r ≡ authority (viewRegistry g) (evidenceOf b evidence p c (viewRegistry management))) ⌝ }
-{
-    if evidence == 3 {
-        return management;
-    }
-    g
-}
-
 // Whether a toad is met by the good signatures of so many backers.
-pub fn enough_receipts(s: &[u8], signatures: Counted, backers: Members, toad: Toad) -> Answer
-    ensures { λ r. ⌜ r ≡ enoughReceipts (toad .0) (length (view backers)) (signaturesIn (now (s .entry)) signatures) ⌝ }
+pub fn enough_receipts(s: &[u8], signatures: Counted, backers: usize, toad: Toad) -> Answer
+    ensures { λ r. ⌜ r ≡ enoughReceipts (toad .0) (min backers 16) (signaturesIn (now (s .entry)) signatures) ⌝ }
 {
     let valid = valid_receipts(s, signatures, backers);
     let required = toad.value();
@@ -133,40 +122,21 @@ pub fn enough_receipts(s: &[u8], signatures: Counted, backers: Members, toad: To
 }
 
 // The rules on the authority's backers and toad, and its receipts.
-pub fn backed_by(s: &[u8], signatures: Counted, g: RegistryState) -> Answer
-    ensures { λ r. ⌜ r ≡ backedBy (viewRegistry g) (signaturesIn (now (s .entry)) signatures) ⌝ }
+pub fn backed_by(s: &[u8], signatures: Counted, backers: Members, toad: Toad) -> Answer
+    ensures { λ r. ⌜ r ≡ backedBy (toad .0) (view backers) (signaturesIn (now (s .entry)) signatures) ⌝ }
 {
-    let backers = g.backers;
-    let toad = g.toad;
     let members = backer_set(MemberSet::check_members(backers));
-    let threshold = accept_if(
-        toad.is_exact(backers.size()),
-        RegistryRejection::BackerThreshold,
-    );
-    let receipts = enough_receipts(s, signatures, backers, toad);
+    let count = backers.size();
+    let exact = toad.is_exact(count);
+    let threshold = accept_if(exact, RegistryRejection::BackerThreshold);
+    let receipts = enough_receipts(s, signatures, count, toad);
     or_else(
         members,
         or_else(threshold, or_else(receipts, Answer::Accepted)),
     )
 }
 
-// The authority that the event's seal and the evidence name, and what it must have signed; where the evidence is BackerAt, the state that it holds.
-fn judged(
-    s: &[u8],
-    signatures: Counted,
-    g: RegistryState,
-    seal: Seal,
-    evidence: u8,
-    management: RegistryState,
-) -> Answer
-    ensures { λ r. ⌜ ((p : Matter) (c : Part) → r ≡ authenticateBacker (viewRegistry g) seal (evidenceOf (now (s .entry)) evidence p c (viewRegistry management)) (signaturesIn (now (s .entry)) signatures)) ⌝ }
-{
-    let found = resolved(g, seal, evidence, management);
-    let backed = backed_by(s, signatures, authority(g, evidence, management));
-    or_else(found, or_else(backed, Answer::Accepted))
-}
-
-// The same by the place of BackerAt's state in the bytes, which is read where it is used.
+// The authority that the event's seal and the evidence name, and what it must have signed. BackerAt's state is read from its place in the bytes where it is used. Its list alone is handed on, since a state is copied at every call.
 pub fn authenticate_backer(
     s: &[u8],
     signatures: Counted,
@@ -179,7 +149,11 @@ pub fn authenticate_backer(
 {
     if evidence == 3 {
         let held = RegistryState::read(management, s);
-        return judged(s, signatures, g, seal, evidence, held.value);
+        let found = resolved(g, seal, evidence, held.value);
+        let backed = backed_by(s, signatures, held.value.backers, held.value.toad);
+        return or_else(found, or_else(backed, Answer::Accepted));
     }
-    judged(s, signatures, g, seal, evidence, g)
+    let found = resolved(g, seal, evidence, g);
+    let backed = backed_by(s, signatures, g.backers, g.toad);
+    or_else(found, or_else(backed, Answer::Accepted))
 }

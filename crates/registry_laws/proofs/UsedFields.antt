@@ -35,7 +35,7 @@ or-assoc (Rejected r) y z = refl
 
 module _ (g h : Registry) (one : OneRegistry g h) where
   -- the answer by the evidence, and what follows it
-  by-evidence : (s : Sn) (d : Said) (e : Evidence) (l : List Signature) → e ≢ backer → orElse (resolvedBy g s d e) (orElse (backedBy (authority g e) l) Accepted) ≡ orElse (resolvedBy h s d e) (orElse (backedBy (authority h e) l) Accepted)
+  by-evidence : (s : Sn) (d : Said) (e : Evidence) (l : List Signature) → e ≢ backer → orElse (resolvedBy g s d e) (orElse (backedBy (authority g e .toad) (authority g e .backers) l) Accepted) ≡ orElse (resolvedBy h s d e) (orElse (backedBy (authority h e .toad) (authority h e .backers) l) Accepted)
   unfolding sameRegistry
   by-evidence s d missing l n = refl
   by-evidence s d (issuer prefix anchor) l n = refl
@@ -50,9 +50,9 @@ module _ (g h : Registry) (one : OneRegistry g h) where
   by-seal (EventSeal i s d) e l n =
       let x = acceptIf (eqMatter (matterOf i) (g .id .0)) InconsistentRegistry in
       let y = acceptIf (eqMatter (matterOf i) (h .id .0)) InconsistentRegistry in
-      or-assoc x (resolvedBy g s d e) (orElse (backedBy (authority g e) l) Accepted)
+      or-assoc x (resolvedBy g s d e) (orElse (backedBy (authority g e .toad) (authority g e .backers) l) Accepted)
       ∙ ap (orElse x) (by-evidence s d e l n)
-      ∙ rw (one .id) (sym (or-assoc y (resolvedBy h s d e) (orElse (backedBy (authority h e) l) Accepted)))
+      ∙ rw (one .id) (sym (or-assoc y (resolvedBy h s d e) (orElse (backedBy (authority h e .toad) (authority h e .backers) l) Accepted)))
   by-seal Last e l n = refl
   by-seal Back e l n = refl
   by-seal Kind e l n = refl

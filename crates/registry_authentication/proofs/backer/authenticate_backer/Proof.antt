@@ -1,11 +1,7 @@
 use denote.Ref.{now}
-use mathlib.Core.Path.{ap, _∙_}
-use Rattle.registry_state.specs.States.{Registry, viewRegistry}
-use Rattle.codec_cursor.specs.Readers.{Read}
-use Rattle.registry_wire.specs.Attempts.{Evidence, evidenceOf}
+use Rattle.registry_state.specs.States.{viewRegistry}
 use Rattle.registry_seals.specs.SignatureSections.{signaturesIn}
-use Rattle.registry_authentication.specs.Backers.{authenticateBacker}
-use Rattle.registry_authentication.proofs.EvidenceLaws.{any-state}
+use Rattle.registry_authentication.proofs.EvidenceLaws.{by-held, by-own}
 use borrow.Author.Needs.{needs}
 use Rattle.registry_authentication.proofs.backer.authenticate_backer.Statement.{statement}
 use Rattle.registry_authentication.proofs.backer.authenticate_backer.Tie as tie
@@ -13,24 +9,61 @@ use Rattle.registry_authentication.proofs.backer.authenticate_backer.Ti
 read-requires : tie.Need-read-requires
 read-requires c κs = search needs
 
-judged-requires : tie.Need-judged-requires
-judged-requires c κs = search needs
+resolved-requires : tie.Need-resolved-requires
+resolved-requires c κs = search needs
+
+backed-by-requires : tie.Need-backed-by-requires
+backed-by-requires c κs = search needs
+
+or-else-requires : tie.Need-or-else-requires
+or-else-requires c κs = search needs
+
+or-else-requires-2 : tie.Need-or-else-requires-2
+or-else-requires-2 c κs = search needs
 
 returns : tie.Need-returns
 returns c p d =
-    let a = c .before .before .before .before .args in
-    c .judged .ensures p d
-    ∙ ap (λ (h : Registry). authenticateBacker (viewRegistry (a .g)) (a .seal) (evidenceOf (now (a .s)) (a .evidence) p d h) (signaturesIn (now (a .s)) (a .signatures))) (ap (λ (q : Read Registry). q .value) (c .before .read .ensures .0))
+    let b2 = c .before .before in
+    let read = b2 .before .before .read in
+    let b6 = b2 .before .before .before in
+    let a = b6 .before .before .args in
+    let s = now (a .s) in
+    rw (c .or-else2 .ensures, c .before .or-else .ensures, b2 .backed-by .ensures, b2 .before .resolved .ensures s p d, ← read .ensures .0)
+    (by-held s (a .evidence) p d (viewRegistry (a .g)) (viewRegistry (read .result .value)) (a .seal) (signaturesIn s (a .signatures)) (b6 .if1 .taken))
 
-judged-requires-2 : tie.Need-judged-requires-2
-judged-requires-2 c κs = search needs
+resolved-requires-2 : tie.Need-resolved-requires-2
+resolved-requires-2 c κs = search needs
+
+backed-by-requires-2 : tie.Need-backed-by-requires-2
+backed-by-requires-2 c κs = search needs
+
+or-else-requires-3 : tie.Need-or-else-requires-3
+or-else-requires-3 c κs = search needs
+
+or-else-requires-4 : tie.Need-or-else-requires-4
+or-else-requires-4 c κs = search needs
 
 returns-2 : tie.Need-returns-2
 returns-2 c p d =
-    let a = c .before .before .before .args in
-    c .judged2 .ensures p d
-    ∙ ap (λ (e : Evidence). authenticateBacker (viewRegistry (a .g)) (a .seal) e (signaturesIn (now (a .s)) (a .signatures))) (any-state (now (a .s)) (a .evidence) p d _ _ (c .before .if1 .left))
+    let b2 = c .before .before in
+    let b4 = b2 .before .before in
+    let a = b4 .before .before .args in
+    let s = now (a .s) in
+    rw (c .or-else4 .ensures, c .before .or-else3 .ensures, b2 .backed-by2 .ensures, b2 .before .resolved2 .ensures s p d)
+    (by-own s (a .evidence) p d (viewRegistry (a .g)) _ (a .seal) (signaturesIn s (a .signatures)) (b4 .if1 .left))
 
 pub authenticate-backer-spec : {M : Type 1} → statement M
 authenticate-backer-spec =
-    tie.close (tie.spec read-requires judged-requires returns judged-requires-2 returns-2)
+    tie.close
+    (tie.spec
+    read-requires
+    resolved-requires
+    backed-by-requires
+    or-else-requires
+    or-else-requires-2
+    returns
+    resolved-requires-2
+    backed-by-requires-2
+    or-else-requires-3
+    or-else-requires-4
+    returns-2)
