@@ -131,7 +131,7 @@ impl MemberSet {
         ensures answer { λ r. ⌜ r ≡ checkMembers (view members) ⌝ }
         ensures offends { λ r. ⌜ Offends r (record { backers = view members; cuts = []; additions = [] }) ⌝ }
     {
-        check_rule(Rule::DuplicateBacker, members, members)
+        check_rule(Rule::DuplicateBacker, true, false, members, members)
     }
 
     // No cut stands twice, no addition stands twice, and no cut is added.
@@ -139,9 +139,9 @@ impl MemberSet {
         ensures answer { λ r. ⌜ r ≡ checkDeltas (view cuts) (view additions) ⌝ }
         ensures offends { λ r. ⌜ Offends r (record { backers = []; cuts = view cuts; additions = view additions }) ⌝ }
     {
-        let cut = check_rule(Rule::DuplicateCut, cuts, cuts);
-        let addition = check_rule(Rule::DuplicateAddition, additions, additions);
-        let overlap = check_rule(Rule::CutAddOverlap, cuts, additions);
+        let cut = check_rule(Rule::DuplicateCut, true, false, cuts, cuts);
+        let addition = check_rule(Rule::DuplicateAddition, true, false, additions, additions);
+        let overlap = check_rule(Rule::CutAddOverlap, false, false, cuts, additions);
         or_else(cut, or_else(addition, overlap))
     }
 
@@ -150,8 +150,14 @@ impl MemberSet {
         ensures answer { λ r. ⌜ r ≡ checkCurrent (view current) (view cuts) (view additions) ⌝ }
         ensures offends { λ r. ⌜ Offends r (record { backers = view current; cuts = view cuts; additions = view additions }) ⌝ }
     {
-        let cut = check_rule(Rule::RemovalNotCurrent, cuts, current);
-        let addition = check_rule(Rule::AdditionAlreadyPresent, additions, current);
+        let cut = check_rule(Rule::RemovalNotCurrent, false, true, cuts, current);
+        let addition = check_rule(
+            Rule::AdditionAlreadyPresent,
+            false,
+            false,
+            additions,
+            current,
+        );
         or_else(cut, addition)
     }
 }
@@ -161,34 +167,6 @@ fn no_prefix() -> BasicPrefix
     ensures { λ r. ⌜ r ≡ noPrefix ⌝ }
 {
     BasicPrefix(Matter::none())
-}
-
-// Whether a rule is about an element that stands in its own list before.
-fn is_repeat(rule: Rule) -> bool
-    ensures { λ r. ⌜ r ≡ isRepeat rule ⌝ }
-{
-    match rule {
-        Rule::DuplicateBacker => true,
-        Rule::DuplicateCut => true,
-        Rule::DuplicateAddition => true,
-        Rule::CutAddOverlap => false,
-        Rule::RemovalNotCurrent => false,
-        Rule::AdditionAlreadyPresent => false,
-    }
-}
-
-// Whether a rule is broken by an element that is not in the other list.
-fn is_missing(rule: Rule) -> bool
-    ensures { λ r. ⌜ r ≡ isMissing rule ⌝ }
-{
-    match rule {
-        Rule::DuplicateBacker => false,
-        Rule::DuplicateCut => false,
-        Rule::DuplicateAddition => false,
-        Rule::CutAddOverlap => false,
-        Rule::RemovalNotCurrent => true,
-        Rule::AdditionAlreadyPresent => false,
-    }
 }
 
 // The element that another is held against at one place: of its own list, for a repeat.
@@ -221,12 +199,12 @@ fn differs(found: bool, missing: bool) -> bool
 }
 
 // One rule on a list: the first place that breaks it. A repeat does not look at the other list, so its callers give the list itself.
-// The two loops are in one function, since a list is copied at every call.
-fn check_rule(rule: Rule, list: Members, other: Members) -> Membership
+// A list is copied at every call: so the two loops are in one function, and its callers say what the rule is about in literals, with
+// which the compiler writes it out at each call, without the list that is not looked at.
+fn check_rule(rule: Rule, repeat: bool, missing: bool, list: Members, other: Members) -> Membership
+    requires { ⌜ (repeat ≡ isRepeat rule) × (missing ≡ isMissing rule) ⌝ }
     ensures { λ r. ⌜ r ≡ check rule (view list) (view other) ⌝ }
 {
-    let repeat = is_repeat(rule);
-    let missing = is_missing(rule);
     let n = list.size();
     let m = other.size();
     let mut i: usize = 0;

@@ -12,50 +12,44 @@ use Rattle.events.proofs.member_set.check_rule.Statement.{statement}
 use Rattle.events.proofs.member_set.check_rule.Tie as tie
 
 abbrev Inv-loop2 : tie.InvT-loop2
-Inv-loop2 rule list other repeat missing n m i x end found₀ j₀ found j = (j ≤ end) × (found ≡ has x (take j (cond repeat (view list) (view other))))
+Inv-loop2 rule repeat missing list other n m i x end found₀ j₀ found j = (j ≤ end) × (found ≡ has x (take j (cond repeat (view list) (view other))))
 
 abbrev μ-loop2 : tie.MeasureT-loop2
-μ-loop2 rule list other repeat missing n m i x end found₀ j₀ found j = end - j
+μ-loop2 rule repeat missing list other n m i x end found₀ j₀ found j = end - j
 
 abbrev Inv-loop : tie.InvT-loop
-Inv-loop rule list other repeat missing n m i₀ i = (i ≤ n) × ((k : ℕ) → k < i → breaks rule (view list) (view other) k ≡ false)
+Inv-loop rule repeat missing list other n m i₀ i = (i ≤ n) × ((k : ℕ) → k < i → breaks rule (view list) (view other) k ≡ false)
 
 abbrev μ-loop : tie.MeasureT-loop
-μ-loop rule list other repeat missing n m i₀ i = n - i
+μ-loop rule repeat missing list other n m i₀ i = n - i
 
-full : (c : tie.Start Inv-loop2 μ-loop2 Inv-loop μ-loop) → (length (c .args .t2 .items) ≡ 16) × (length (c .args .t3 .items) ≡ 16)
+full : (c : tie.Start Inv-loop2 μ-loop2 Inv-loop μ-loop) → (length (c .args .t4 .items) ≡ 16) × (length (c .args .t5 .items) ≡ 16)
 full c = (search length-mapped, search length-mapped)
 
 -- where the inner loop ends, and that an array has so many elements
-ends : (c : tie.After-until Inv-loop2 μ-loop2 Inv-loop μ-loop) → let r = c .before .before .before .before .before .before .before in c .until .result ≡ cond (r .is-repeat .result) (c .before .before .before .loop .i) (length (view (r .before .args .t3)))
+ends : (c : tie.After-until Inv-loop2 μ-loop2 Inv-loop μ-loop) → let l = c .before .before .before in let a = l .before .before .before .args in c .until .result ≡ cond (a .repeat) (l .loop .i) (length (view (a .t5)))
 ends c =
     let l = c .before .before .before in
-    c .until .ensures ∙ ap (λ (m : ℕ). cond (l .before .before .before .before .is-repeat .result) (l .loop .i) m) (l .before .size2 .ensures .0)
+    c .until .ensures ∙ ap (λ (m : ℕ). cond (l .before .before .before .args .repeat) (l .loop .i) m) (l .before .size2 .ensures .0)
 
 within : (c : tie.After-until Inv-loop2 μ-loop2 Inv-loop μ-loop) → c .until .result ≤ 16
 within c =
     let l = c .before .before .before in
-    rw (c .until .ensures) (until-within (l .before .before .before .before .is-repeat .result) (l .loop .i) (l .before .size2 .result) 16 (omega arith) (omega arith))
+    rw (c .until .ensures) (until-within (l .before .before .before .args .repeat) (l .loop .i) (l .before .size2 .result) 16 (omega arith) (omega arith))
 
 -- whether the place breaks the rule is what the inner loop found
-place : (c : tie.After-differs Inv-loop2 μ-loop2 Inv-loop μ-loop) → let l = c .before .before .before .before .before .before in let a = l .before .before .before .before .before .args in breaks (a .rule) (view (a .t2)) (view (a .t3)) (l .loop .i) ≡ c .differs .result
+place : (c : tie.After-differs Inv-loop2 μ-loop2 Inv-loop μ-loop) → let l = c .before .before .before .before .before .before in let a = l .before .before .before .args in breaks (a .rule) (view (a .t4)) (view (a .t5)) (l .loop .i) ≡ c .differs .result
 place c =
     let u = c .before .before .before in
     let l = u .before .before .before in
-    let r = l .before .before .before .before in
-    let s = r .before in
+    let s = l .before .before .before in
+    let a = s .args in
     let f = c .before .before .loop2 in
     let i = l .loop .i in
     let e : u .until .result ≡ f .j = omega arith in
-    let x = view-at (s .args .t2) (full s .0) i (omega arith) in
-    held-breaks (s .args .rule) (view (s .args .t2)) (view (s .args .t3)) i (f .found) (rw (← r .is-repeat .ensures, ← x, ← ends u, e) (f .inv .1))
-    ∙ rw (c .differs .ensures, l .before .before .before .is-missing .ensures)
-
-is-repeat-requires : tie.Need-is-repeat-requires Inv-loop2 μ-loop2 Inv-loop μ-loop
-is-repeat-requires c κs = search needs
-
-is-missing-requires : tie.Need-is-missing-requires Inv-loop2 μ-loop2 Inv-loop μ-loop
-is-missing-requires c κs = search needs
+    let x = view-at (a .t4) (full s .0) i (omega arith) in
+    held-breaks (a .rule) (view (a .t4)) (view (a .t5)) i (f .found) (rw (← s .pre .0, ← x, ← ends u, e) (f .inv .1))
+    ∙ rw (c .differs .ensures, s .pre .1)
 
 size-requires : tie.Need-size-requires Inv-loop2 μ-loop2 Inv-loop μ-loop
 size-requires c κs = search needs
@@ -107,10 +101,9 @@ loop2-again : tie.Need-loop2-again Inv-loop2 μ-loop2 Inv-loop μ-loop
 loop2-again c =
     let u = c .before .before .before .before .before .before in
     let l = u .before .before .before in
-    let r = l .before .before .before .before in
-    let s = r .before in
+    let s = l .before .before .before in
     let f = c .before .before .before .before .before .loop2 in
-    (search needs, sym (held-step (r .is-repeat .result) (s .args .t2) (s .args .t3) (full s .0) (full s .1) _ (l .loop .i) (f .j) (omega arith) (omega (arith, ends u)) ∙ rw (← f .inv .1, ← c .before .against .ensures, ← c .same .ensures)))
+    (search needs, sym (held-step (s .args .repeat) (s .args .t4) (s .args .t5) (full s .0) (full s .1) _ (l .loop .i) (f .j) (omega arith) (omega (arith, ends u)) ∙ rw (← f .inv .1, ← c .before .against .ensures, ← c .same .ensures)))
 
 differs-requires : tie.Need-differs-requires Inv-loop2 μ-loop2 Inv-loop μ-loop
 differs-requires c κs = search needs
@@ -118,8 +111,8 @@ differs-requires c κs = search needs
 returns : tie.Need-returns Inv-loop2 μ-loop2 Inv-loop μ-loop
 returns c =
     let l = c .before .before .before .before .before .before .before in
-    let a = l .before .before .before .before .before .args in
-    sym (check-found (a .rule) (view (a .t2)) (view (a .t3)) (l .loop .i) (omega arith) (l .loop .inv .1) (place (c .before) ∙ c .if1 .taken))
+    let a = l .before .before .before .args in
+    sym (check-found (a .rule) (view (a .t4)) (view (a .t5)) (l .loop .i) (omega arith) (l .loop .inv .1) (place (c .before) ∙ c .if1 .taken))
 
 add-i : tie.Need-add-i Inv-loop2 μ-loop2 Inv-loop μ-loop
 add-i c = search needs
@@ -133,8 +126,8 @@ loop-again c = (search needs, below-more _ _ (c .before .before .before .before 
 returns-2 : tie.Need-returns-2 Inv-loop2 μ-loop2 Inv-loop μ-loop
 returns-2 c =
     let l = c .before in
-    let a = l .before .before .before .before .before .args in
-    sym (all-sound (a .rule) (view (a .t2)) (view (a .t3)) (λ k h. l .loop .inv .1 k (omega arith)))
+    let a = l .before .before .before .args in
+    sym (all-sound (a .rule) (view (a .t4)) (view (a .t5)) (λ k h. l .loop .inv .1 k (omega arith)))
 
 pub check-rule-spec : {M : Type 1} → statement M
 check-rule-spec =
@@ -144,8 +137,6 @@ check-rule-spec =
     μ-loop2
     Inv-loop
     μ-loop
-    is-repeat-requires
-    is-missing-requires
     size-requires
     size-requires-2
     loop-holds

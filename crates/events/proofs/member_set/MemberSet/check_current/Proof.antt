@@ -1,15 +1,15 @@
 use borrow.Author.Needs.{needs}
-use mathlib.Core.Path.{_≡_}
+use mathlib.Core.Path.{_≡_, refl}
 use Rattle.events.specs.Members.{view, checkCurrent}
 use Rattle.events.proofs.Members.{current-offends}
 use Rattle.events.proofs.member_set.MemberSet.check_current.Statement.{statement}
 use Rattle.events.proofs.member_set.MemberSet.check_current.Tie as tie
 
 check-rule-requires : tie.Need-check-rule-requires
-check-rule-requires c κs = search needs
+check-rule-requires c κs = (refl, refl)
 
 check-rule-requires-2 : tie.Need-check-rule-requires-2
-check-rule-requires-2 c κs = search needs
+check-rule-requires-2 c κs = (refl, refl)
 
 or-else-requires : tie.Need-or-else-requires
 or-else-requires c κs = search needs

@@ -8,13 +8,13 @@ use Rattle.events.proofs.member_set.MemberSet.check_deltas.Statement.{s
 use Rattle.events.proofs.member_set.MemberSet.check_deltas.Tie as tie
 
 check-rule-requires : tie.Need-check-rule-requires
-check-rule-requires c κs = search needs
+check-rule-requires c κs = (refl, refl)
 
 check-rule-requires-2 : tie.Need-check-rule-requires-2
-check-rule-requires-2 c κs = search needs
+check-rule-requires-2 c κs = (refl, refl)
 
 check-rule-requires-3 : tie.Need-check-rule-requires-3
-check-rule-requires-3 c κs = search needs
+check-rule-requires-3 c κs = (refl, refl)
 
 or-else-requires : tie.Need-or-else-requires
 or-else-requires c κs = search needs

@@ -1,4 +1,3 @@
-use borrow.Author.Needs.{needs}
 use mathlib.Core.Path.{_≡_, refl, _∙_}
 use mathlib.Core.List.{[]}
 use Rattle.events.specs.declared.member_set.Rule.the-variants.{DuplicateBacker}
@@ -8,7 +7,7 @@ use Rattle.events.proofs.member_set.MemberSet.check_members.Statement.{
 use Rattle.events.proofs.member_set.MemberSet.check_members.Tie as tie
 
 check-rule-requires : tie.Need-check-rule-requires
-check-rule-requires c κs = search needs
+check-rule-requires c κs = (refl, refl)
 
 returns : tie.Need-returns
 unfolding checkMembers
