@@ -20,7 +20,7 @@ use Rattle.registry_answer.specs.Answers.{acceptIf, firstOf}
 use Rattle.registry_verification.specs.Receipts.{hasGood, receipts}
 use Rattle.registry_verification.specs.Sequence.{nextSn}
 use Rattle.registry_verification.specs.Updated.{survivors, updatedMembers}
-use Rattle.registry_authentication.specs.Backers.{standsAt, enoughReceipts, backedBy, authenticateBacker}
+use Rattle.registry_backer.specs.Backers.{standsAt, enoughReceipts, backedBy, authenticateBacker}
 use Rattle.registry_authentication.specs.Issuers.{authenticateIssuer}
 use Rattle.registry_inception.specs.InceptionFolds as N
 use Rattle.registry.specs.RegistryFolds as R

@@ -1,2 +1,1 @@
-pub mod Backers
 pub mod Issuers

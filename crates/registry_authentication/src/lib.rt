@@ -1,3 +1,2 @@
-// Who an attempt's event comes from: issuers, anchoring events and backers (docs/RULES.md, "Evidence", "Anchoring events").
-pub mod backer;
+// Who an attempt's event comes from: issuers and anchoring events (docs/RULES.md, "Evidence", "Anchoring events").
 pub mod issuer;

@@ -17,7 +17,7 @@ use Rattle.registry_error.specs.declared.error.Answer.{Answer}
 use Rattle.registry_error.specs.declared.error.Answer.the-variants.{Rejected}
 use Rattle.registry_answer.specs.Answers.{accepts, acceptIf, firstOf}
 use Rattle.registry_authentication.specs.Issuers.{anchored, authenticateIssuer}
-use Rattle.registry_authentication.specs.Backers.{isBackerless, authenticateBacker}
+use Rattle.registry_backer.specs.Backers.{isBackerless, authenticateBacker}
 use Rattle.registry_issue.specs.declared.credential_state.CredentialOutcome.{CredentialOutcome}
 
 -- an answer, and the state behind it

@@ -34,7 +34,7 @@ use Rattle.registry_wire.proofs.CodesAttempt.{decodes}
 use Rattle.registry_answer.specs.Answers.{accepts, acceptIf}
 use Rattle.registry_error.specs.declared.error.Answer.the-variants.{Rejected}
 use Rattle.registry_error.specs.declared.error.RegistryRejection.the-variants.{Malformed, InconsistentRegistry, InconsistentCredential}
-use Rattle.registry_authentication.specs.Backers.{namesRegistry}
+use Rattle.registry_backer.specs.Backers.{namesRegistry}
 use Rattle.registry_issue.specs.IssueFolds.{Outcome}
 use Rattle.registry_credential_state.specs.CredentialFolds.{transition, revAnswer, brvAnswer, ingestEvent, ingestAnswer, revoked, ingestMessage, ingestDecoded, ingestOf}
 use Rattle.registry_verification.specs.Sequence.{nextSn}

@@ -1,10 +1,10 @@
 use denote.Ref.{now}
 use Rattle.registry_state.specs.States.{viewRegistry}
 use Rattle.registry_seals.specs.SignatureSections.{signaturesIn}
-use Rattle.registry_authentication.proofs.EvidenceLaws.{by-held, by-own}
+use Rattle.registry_backer.proofs.AuthorityLaws.{by-held, by-own}
 use borrow.Author.Needs.{needs}
-use Rattle.registry_authentication.proofs.backer.authenticate_backer.Statement.{statement}
-use Rattle.registry_authentication.proofs.backer.authenticate_backer.Tie as tie
+use Rattle.registry_backer.proofs.backer.authenticate_backer.Statement.{statement}
+use Rattle.registry_backer.proofs.backer.authenticate_backer.Tie as tie
 
 read-requires : tie.Need-read-requires
 read-requires c κs = search needs

@@ -1,7 +1,7 @@
-use Rattle.registry_authentication.specs.Backers.{sameRegistry}
+use Rattle.registry_backer.specs.Backers.{sameRegistry}
 use borrow.Author.Needs.{needs}
-use Rattle.registry_authentication.proofs.backer.same_registry.Statement.{statement}
-use Rattle.registry_authentication.proofs.backer.same_registry.Tie as tie
+use Rattle.registry_backer.proofs.backer.same_registry.Statement.{statement}
+use Rattle.registry_backer.proofs.backer.same_registry.Tie as tie
 
 same-requires : tie.Need-same-requires
 same-requires c κs = search needs

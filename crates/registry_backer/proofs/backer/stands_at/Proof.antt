@@ -1,7 +1,7 @@
-use Rattle.registry_authentication.specs.Backers.{standsAt}
+use Rattle.registry_backer.specs.Backers.{standsAt}
 use borrow.Author.Needs.{needs}
-use Rattle.registry_authentication.proofs.backer.stands_at.Statement.{statement}
-use Rattle.registry_authentication.proofs.backer.stands_at.Tie as tie
+use Rattle.registry_backer.proofs.backer.stands_at.Statement.{statement}
+use Rattle.registry_backer.proofs.backer.stands_at.Tie as tie
 
 same-requires : tie.Need-same-requires
 same-requires c κs = search needs

@@ -1,8 +1,8 @@
 use borrow.Author.Tests.{ne-eqb}
 use Rattle.registry_wire.specs.Attempts.{evidenceOf}
 use borrow.Author.Needs.{needs}
-use Rattle.registry_authentication.proofs.backer.resolved_by.Statement.{statement}
-use Rattle.registry_authentication.proofs.backer.resolved_by.Tie as tie
+use Rattle.registry_backer.proofs.backer.resolved_by.Statement.{statement}
+use Rattle.registry_backer.proofs.backer.resolved_by.Tie as tie
 
 returns : tie.Need-returns
 unfolding evidenceOf

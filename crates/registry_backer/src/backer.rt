@@ -23,7 +23,7 @@ ghost use Rattle.registry_state.specs.States.{viewRegistry};
 ghost use Rattle.registry_wire.specs.Attempts.{evidenceOf, evidenceAs};
 ghost use Rattle.registry_seals.specs.SignatureSections.{signaturesIn};
 ghost use Rattle.registry_wire.specs.declared.attempt.Part.{Part};
-ghost use Rattle.registry_authentication.specs.Backers.{isBackerless, sameRegistry, standsAt, resolvedBy, namesRegistry, resolved, enoughReceipts, backedBy, authenticateBacker};
+ghost use Rattle.registry_backer.specs.Backers.{isBackerless, sameRegistry, standsAt, resolvedBy, namesRegistry, resolved, enoughReceipts, backedBy, authenticateBacker};
 
 // Whether the trait NoBackers is set. The list of backers is not looked at.
 pub fn is_backerless(g: RegistryState) -> bool

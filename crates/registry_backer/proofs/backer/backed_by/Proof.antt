@@ -1,11 +1,11 @@
 use Prim.Native.Nat.{min}
 use mathlib.Core.Path.{_≡_}
 use native.Mathlib.Omega.{arith}
-use Rattle.registry_authentication.specs.Backers.{backedBy}
+use Rattle.registry_backer.specs.Backers.{backedBy}
 use Rattle.registry_answer.specs.Answers.{firstOf}
 use borrow.Author.Needs.{needs}
-use Rattle.registry_authentication.proofs.backer.backed_by.Statement.{statement}
-use Rattle.registry_authentication.proofs.backer.backed_by.Tie as tie
+use Rattle.registry_backer.proofs.backer.backed_by.Statement.{statement}
+use Rattle.registry_backer.proofs.backer.backed_by.Tie as tie
 
 check-members-requires : tie.Need-check-members-requires
 check-members-requires c κs = search needs
