@@ -38,7 +38,7 @@ use Rattle.registry_inception.proofs.WellLaws.{Lettered}
 use Rattle.registry.proofs.WellLaws.{good-rotated}
 use Rattle.registry_inception.proofs.InceptionLaws.{good-event}
 
-pub limit-chain : (ok : Bool) (toad : ℕ) (u v now : List BasicPrefix) (l : List Signature) → v ≡ cond ok u now → orElse (acceptIf ok TooManyBackers) (orElse (thresholdFits toad v) (orElse (enoughReceipts toad (length v) l) Accepted)) ≡ orElse (acceptIf ok TooManyBackers) (orElse (thresholdFits toad u) (orElse (enoughReceipts toad (length u) l) Accepted))
+pub limit-chain : (ok : Bool) (toad : ℕ) (u v now : List BasicPrefix) (l : List Signature) → v ≡ cond ok u now → orElse (acceptIf ok TooManyBackers) (orElse (thresholdFits toad (length v)) (orElse (enoughReceipts toad (length v) l) Accepted)) ≡ orElse (acceptIf ok TooManyBackers) (orElse (thresholdFits toad (length u)) (orElse (enoughReceipts toad (length u) l) Accepted))
 unfolding acceptIf
 limit-chain true toad u v now l e = rw e
 limit-chain false toad u v now l e = refl

@@ -36,7 +36,7 @@ vrtBackers current toad cuts additions l =
     (backerSet (checkDeltas cuts additions)
     ∷ backerSet (checkCurrent current cuts additions)
     ∷ acceptIf (leb (length (updatedMembers current cuts additions)) 16) TooManyBackers
-    ∷ thresholdFits toad (updatedMembers current cuts additions)
+    ∷ thresholdFits toad (length (updatedMembers current cuts additions))
     ∷ enoughReceipts toad (length (updatedMembers current cuts additions)) l
     ∷ [])
 

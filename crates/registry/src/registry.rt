@@ -53,8 +53,9 @@ fn vrt_backers(current: Members, a: Attempt, s: &[u8]) -> Rotation
     let after = updated_members(current, cuts, additions);
     let limit = accept_if(after.ok, RegistryRejection::TooManyBackers);
     let backers = after.members.trimmed();
-    let threshold = threshold_fits(toad, backers);
-    let receipts = enough_receipts(s, a.signatures, backers, toad);
+    let count = backers.size();
+    let threshold = threshold_fits(toad, count);
+    let receipts = enough_receipts(s, a.signatures, count, toad);
     let late = or_else(threshold, or_else(receipts, Answer::Accepted));
     let answer = or_else(deltas, or_else(members, or_else(limit, late)));
     Rotation { answer, backers }

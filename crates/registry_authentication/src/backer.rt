@@ -3,7 +3,6 @@ use cesr::number::Sn;
 use cesr::primitive::Said;
 use codec_cursor::cursor::Cursor;
 use events::member_set::MemberSet;
-use events::member_set::Members;
 use events::seal::Seal;
 use events_toad::toad::Toad;
 use registry_answer::answer::accept_if;
@@ -14,12 +13,10 @@ use registry_error::error::RegistryRejection;
 use registry_seals::signatures::Counted;
 use registry_state::state::RegistryState;
 use registry_verification::verification::valid_receipts;
-ghost use Prim.Native.Nat.{ℕ};
+ghost use Prim.Native.Nat.{ℕ, min};
 ghost use mathlib.Core.Path.{_≡_};
 ghost use mathlib.Core.List.{List};
-ghost use lib.ListN.{length};
 ghost use Rattle.cesr.specs.declared.primitive.Matter.{Matter};
-ghost use Rattle.events.specs.Members.{view};
 ghost use Rattle.registry_state.specs.States.{viewRegistry};
 ghost use Rattle.registry_wire.specs.Attempts.{evidenceOf, evidenceAs};
 ghost use Rattle.registry_seals.specs.SignatureSections.{signaturesIn};
@@ -120,8 +117,8 @@ pub fn authority(g: RegistryState, evidence: u8, management: RegistryState) -> R
 }
 
 // Whether a toad is met by the good signatures of so many backers.
-pub fn enough_receipts(s: &[u8], signatures: Counted, backers: Members, toad: Toad) -> Answer
-    ensures { λ r. ⌜ r ≡ enoughReceipts (toad .0) (length (view backers)) (signaturesIn (now (s .entry)) signatures) ⌝ }
+pub fn enough_receipts(s: &[u8], signatures: Counted, backers: usize, toad: Toad) -> Answer
+    ensures { λ r. ⌜ r ≡ enoughReceipts (toad .0) (min backers 16) (signaturesIn (now (s .entry)) signatures) ⌝ }
 {
     let valid = valid_receipts(s, signatures, backers);
     let required = toad.value();
@@ -139,11 +136,10 @@ pub fn backed_by(s: &[u8], signatures: Counted, g: RegistryState) -> Answer
     let backers = g.backers;
     let toad = g.toad;
     let members = backer_set(MemberSet::check_members(backers));
-    let threshold = accept_if(
-        toad.is_exact(backers.size()),
-        RegistryRejection::BackerThreshold,
-    );
-    let receipts = enough_receipts(s, signatures, backers, toad);
+    let count = backers.size();
+    let exact = toad.is_exact(count);
+    let threshold = accept_if(exact, RegistryRejection::BackerThreshold);
+    let receipts = enough_receipts(s, signatures, count, toad);
     or_else(
         members,
         or_else(threshold, or_else(receipts, Answer::Accepted)),

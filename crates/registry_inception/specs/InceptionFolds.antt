@@ -29,8 +29,8 @@ pub record Outcome : Type 0 where
   pub state : Registry
 
 -- 26 of vcp and vrt
-unfoldable pub thresholdFits : ℕ → List BasicPrefix → Answer
-thresholdFits toad backers = acceptIf (exactOk toad (length backers)) BackerThreshold
+unfoldable pub thresholdFits : ℕ → ℕ → Answer
+thresholdFits toad backers = acceptIf (exactOk toad backers) BackerThreshold
 
 -- a vcp after 6: 19 (prefix), 11, 24, 26, 20, 21, 27
 unfoldable pub vcpAnswer : Said → Matter → ℕ → List ℕ → List BasicPrefix → Message → Answer
@@ -39,7 +39,7 @@ vcpAnswer said issuer toad configs backers m =
     (acceptIf (namesIssuer (m .evidence) issuer) InconsistentIssuer
     ∷ acceptIf (not (noBackers configs && not (eqb (length backers) 0))) NoBackersWithBackers
     ∷ backerSet (checkMembers backers)
-    ∷ thresholdFits toad backers
+    ∷ thresholdFits toad (length backers)
     ∷ anchored issuer said snZero said (m .source) (m .anchor)
     ∷ enoughReceipts toad (length backers) (m .signatures)
     ∷ [])

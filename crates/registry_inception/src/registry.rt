@@ -39,13 +39,11 @@ pub struct RegistryOutcome {
 }
 
 // Whether so many backers can meet the toad.
-pub fn threshold_fits(toad: Toad, backers: Members) -> Answer
-    ensures { λ r. ⌜ r ≡ thresholdFits (toad .0) (view backers) ⌝ }
+pub fn threshold_fits(toad: Toad, backers: usize) -> Answer
+    ensures { λ r. ⌜ r ≡ thresholdFits (toad .0) backers ⌝ }
 {
-    accept_if(
-        toad.is_exact(backers.size()),
-        RegistryRejection::BackerThreshold,
-    )
+    let exact = toad.is_exact(backers);
+    accept_if(exact, RegistryRejection::BackerThreshold)
 }
 
 // A vcp's checks behind its kind; the backers are those of its list.
@@ -58,12 +56,13 @@ fn vcp_answer(a: Attempt, s: &[u8], backers: Members) -> Answer
     let zero = Sn { hi: 0, lo: 0 };
     let named = names_issuer(a.evidence, a.issuer, issuer);
     let prefix = accept_if(named, RegistryRejection::InconsistentIssuer);
-    let clash = a.event.configs.no_backers() & !(backers.size() == 0);
+    let count = backers.size();
+    let clash = a.event.configs.no_backers() & !(count == 0);
     let flavor = accept_if(!clash, RegistryRejection::NoBackersWithBackers);
     let members = backer_set(MemberSet::check_members(backers));
-    let threshold = threshold_fits(toad, backers);
+    let threshold = threshold_fits(toad, count);
     let anchor = message_anchored(a, s, issuer, a.event.said, zero);
-    let receipts = enough_receipts(s, a.signatures, backers, toad);
+    let receipts = enough_receipts(s, a.signatures, count, toad);
     let late = or_else(anchor, or_else(receipts, Answer::Accepted));
     or_else(
         prefix,

@@ -73,9 +73,9 @@ module _ (s : Lists) where
   unfolding enoughReceipts
   receipts-placed toad n l = if-placed s _ _ refl
 
-  toad-placed : (toad : ℕ) (l : List BasicPrefix) → Placed s (thresholdFits toad l)
+  toad-placed : (toad n : ℕ) → Placed s (thresholdFits toad n)
   unfolding thresholdFits
-  toad-placed toad l = if-placed s _ _ refl
+  toad-placed toad n = if-placed s _ _ refl
 
   evidence-placed : (g : Registry) (n : Sn) (d : Said) (e : Evidence) → Placed s (resolvedBy g n d e)
   evidence-placed g n d missing = other-placed s _ refl
@@ -115,7 +115,7 @@ unfolding vcpAnswer
 vcp-placed said prefix toad configs backers m =
     let s = alone backers in
     all-placed s _
-    (if-placed s _ _ refl, (if-placed s _ _ refl, (members-placed backers, (toad-placed s toad backers, (anchored-placed s prefix said _ said (m .source) (m .anchor), (receipts-placed s toad _ (m .signatures), tt))))))
+    (if-placed s _ _ refl, (if-placed s _ _ refl, (members-placed backers, (toad-placed s toad _, (anchored-placed s prefix said _ said (m .source) (m .anchor), (receipts-placed s toad _ (m .signatures), tt))))))
 
 lists-placed : (now : List BasicPrefix) (toad : ℕ) (cuts additions : List BasicPrefix) (l : List Signature) → Placed (record { backers = now; cuts = cuts; additions = additions }) (vrtBackers now toad cuts additions l)
 unfolding vrtBackers checkDeltas checkCurrent

@@ -1,12 +1,9 @@
 // Receipts of backers (docs/RULES.md, "Receipts"). Verifying a signature is the caller's; an attempt has the verdicts.
 use codec_cursor::cursor::Cursor;
-use events::member_set::Members;
 use registry_seals::signatures::Counted;
 use registry_seals::signatures::read_signature;
 ghost use mathlib.Core.Path.{_≡_};
-ghost use Prim.Native.Nat.{_≤_};
-ghost use lib.ListN.{length};
-ghost use Rattle.events.specs.Members.{view};
+ghost use Prim.Native.Nat.{_≤_, min};
 ghost use Rattle.registry_seals.specs.SignatureSections.{signaturesIn};
 ghost use Rattle.registry_verification.specs.Receipts.{receipts, marked};
 
@@ -37,11 +34,18 @@ fn mark(m: Marks, backers: usize, index: u32, verdict: u8) -> Marks
     }
 }
 
-// How many backers have a good signature.
-pub fn valid_receipts(s: &[u8], signatures: Counted, backers: Members) -> usize
-    ensures { λ r. ⌜ r ≡ receipts (length (view backers)) (signaturesIn (now (s .entry)) signatures) ⌝ }
+// No list has more backers.
+fn at_most_16(n: usize) -> usize
+    ensures { λ r. ⌜ r ≡ min n 16 ⌝ }
 {
-    let n = backers.size();
+    if 16 < n { 16 } else { n }
+}
+
+// How many of so many backers have a good signature: there are 16 marks, and no backer past them is looked at.
+pub fn valid_receipts(s: &[u8], signatures: Counted, backers: usize) -> usize
+    ensures { λ r. ⌜ r ≡ receipts (min backers 16) (signaturesIn (now (s .entry)) signatures) ⌝ }
+{
+    let n = at_most_16(backers);
     let count = signatures.count;
     let mut c = Cursor {
         ok: true,

@@ -1,3 +1,5 @@
+use Prim.Native.Nat.{min}
+use native.Mathlib.Omega.{arith}
 use lib.ListN.{length}
 use Rattle.events.specs.Members.{view, checkDeltas, checkCurrent}
 use Rattle.registry_answer.specs.Answers.{acceptIf, backerSet, orElse, firstOf}
@@ -44,6 +46,9 @@ accept-if-requires c κs = search needs
 trimmed-requires : tie.Need-trimmed-requires
 trimmed-requires c κs = search needs
 
+size-requires : tie.Need-size-requires
+size-requires c κs = search needs
+
 threshold-fits-requires : tie.Need-threshold-fits-requires
 threshold-fits-requires c κs = search needs
 
@@ -70,7 +75,9 @@ unfolding vrtBackers firstOf
 returns c =
     let b3 = c .before .before .before in
     let b6 = b3 .before .before .before in
-    let b9 = b6 .before .before .before in
+    let size = b6 .before .size in
+    let few : min (size .result) 16 ≡ size .result = omega (arith, size .ensures .0, size .ensures .1) in
+    let b9 = b6 .before .before .before .before in
     let b12 = b9 .before .before .before in
     let z = b12 .before .before .before .before .before .before .args in
     let e = z .a .event in
@@ -81,13 +88,14 @@ returns c =
     let m1 = b12 .before .before .before .before .members-in .ensures .0 in
     let u = updatedMembers (view (z .current)) cuts additions in
     let after = b9 .updated-members .result in
-    let v = view (b6 .before .trimmed .result) in
-    let w : v ≡ cond (after .ok) u (view (z .current)) = rw (← m1, ← m2) (b6 .before .trimmed .ensures .0 ∙ b9 .updated-members .ensures .1) in
+    let trimmed = b6 .before .before .trimmed in
+    let v = view (trimmed .result) in
+    let w : v ≡ cond (after .ok) u (view (z .current)) = rw (← m1, ← m2) (trimmed .ensures .0 ∙ b9 .updated-members .ensures .1) in
     let fits = rw (m1, m2) at (b9 .updated-members .ensures .0) in
     let l = signaturesIn (now (z .s)) (z .a .signatures) in
     let deltas = backerSet (checkDeltas cuts additions) in
     let members = backerSet (checkCurrent (view (z .current)) cuts additions) in
-    let rest = orElse (thresholdFits toad v) (orElse (enoughReceipts toad (length v) l) Accepted) in
+    let rest = orElse (thresholdFits toad (length v)) (orElse (enoughReceipts toad (length v) l) Accepted) in
     let x : c .or-else5 .result ≡ orElse deltas (orElse members (orElse (acceptIf (after .ok) TooManyBackers) rest)) =
     rw (
       c .or-else5 .ensures,
@@ -97,7 +105,9 @@ returns c =
       b3 .before .or-else .ensures,
       b3 .before .before .enough-receipts .ensures,
       b6 .threshold-fits .ensures,
-      b6 .before .before .accept-if .ensures,
+      few,
+      size .ensures .0,
+      b6 .before .before .before .accept-if .ensures,
       b9 .before .backer-set2 .ensures,
       b9 .before .before .check-current .ensures .0,
       b12 .backer-set .ensures,
@@ -109,7 +119,7 @@ returns c =
       x ∙ rw (chain, ← fits),
       (
         (λ h. limit-list deltas members rest (after .ok) u v (view (z .current)) w (rw x at h)),
-        b6 .before .trimmed .ensures .1,
+        trimmed .ensures .1,
       ),
     )
 
@@ -126,6 +136,7 @@ vrt-backers-spec =
     updated-members-requires
     accept-if-requires
     trimmed-requires
+    size-requires
     threshold-fits-requires
     enough-receipts-requires
     or-else-requires

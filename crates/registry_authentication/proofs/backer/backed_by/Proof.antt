@@ -1,3 +1,6 @@
+use Prim.Native.Nat.{min}
+use mathlib.Core.Path.{_≡_}
+use native.Mathlib.Omega.{arith}
 use Rattle.registry_authentication.specs.Backers.{backedBy}
 use Rattle.registry_answer.specs.Answers.{firstOf}
 use borrow.Author.Needs.{needs}
@@ -36,7 +39,9 @@ unfolding backedBy firstOf
 returns c =
     let b3 = c .before .before .before in
     let b6 = b3 .before .before .before in
-    rw (c .or-else3 .ensures, c .before .or-else2 .ensures, c .before .before .or-else .ensures, b3 .enough-receipts .ensures, b3 .before .accept-if .ensures, b3 .before .before .is-exact .ensures, b6 .size .ensures .0, b6 .before .backer-set .ensures, b6 .before .before .check-members .ensures .0)
+    let n = b6 .size .result in
+    let few : min n 16 ≡ n = omega (arith, b6 .size .ensures .0, b6 .size .ensures .1) in
+    rw (c .or-else3 .ensures, c .before .or-else2 .ensures, c .before .before .or-else .ensures, b3 .enough-receipts .ensures, b3 .before .accept-if .ensures, b3 .before .before .is-exact .ensures, few, b6 .size .ensures .0, b6 .before .backer-set .ensures, b6 .before .before .check-members .ensures .0)
 
 pub backed-by-spec : {M : Type 1} → statement M
 backed-by-spec =

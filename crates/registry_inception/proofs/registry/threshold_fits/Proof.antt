@@ -3,9 +3,6 @@ use borrow.Author.Needs.{needs}
 use Rattle.registry_inception.proofs.registry.threshold_fits.Statement.{statement}
 use Rattle.registry_inception.proofs.registry.threshold_fits.Tie as tie
 
-size-requires : tie.Need-size-requires
-size-requires c κs = search needs
-
 is-exact-requires : tie.Need-is-exact-requires
 is-exact-requires c κs = search needs
 
@@ -14,8 +11,8 @@ accept-if-requires c κs = search needs
 
 returns : tie.Need-returns
 unfolding thresholdFits
-returns c = rw (c .accept-if .ensures, c .before .is-exact .ensures, c .before .before .size .ensures .0)
+returns c = rw (c .accept-if .ensures, c .before .is-exact .ensures)
 
 pub threshold-fits-spec : {M : Type 1} → statement M
 threshold-fits-spec =
-    tie.close (tie.spec size-requires is-exact-requires accept-if-requires returns)
+    tie.close (tie.spec is-exact-requires accept-if-requires returns)

@@ -1,3 +1,5 @@
+use Prim.Native.Nat.{min}
+use mathlib.Core.Path.{_≡_}
 use native.Mathlib.Omega.{arith}
 use Rattle.registry_authentication.proofs.AnchorUse.{message-in}
 use Rattle.events_tel.specs.TelEvents.{snZero}
@@ -14,11 +16,11 @@ names-issuer-requires c κs = search needs
 accept-if-requires : tie.Need-accept-if-requires
 accept-if-requires c κs = search needs
 
-no-backers-requires : tie.Need-no-backers-requires
-no-backers-requires c κs = search needs
-
 size-requires : tie.Need-size-requires
 size-requires c κs = search needs
+
+no-backers-requires : tie.Need-no-backers-requires
+no-backers-requires c κs = search needs
 
 accept-if-requires-2 : tie.Need-accept-if-requires-2
 accept-if-requires-2 c κs = search needs
@@ -63,10 +65,11 @@ returns c =
     let b6 = b3 .before .before .before in
     let b9 = b6 .before .before .before in
     let b12 = b9 .before .before .before in
-    let z = b12 .before .before .before .before .before .before .before .args in
+    let start = b12 .before .before .before .before .before .before in
+    let z = start .before .args in
     let a = z .a in
-    let q = b12 .before .before .before .before .before .before .before .args in
-    let y = q .a in
+    let size = b12 .before .size in
+    let few : min (size .result) 16 ≡ size .result = omega (arith, size .ensures .0, size .ensures .1) in
     rw (
       c .or-else6 .ensures,
       c .before .or-else5 .ensures,
@@ -76,13 +79,14 @@ returns c =
       b3 .before .before .or-else .ensures,
       b3 .before .before .before .enough-receipts .ensures,
       b6 .before .message-anchored .ensures,
-      message-in (now (q .s)) y (y .event .issuer) (y .event .said) snZero (y .event .said) (λ i. omega (arith, b12 .before .before .before .before .before .before .shared-slice-known .given i)) (b12 .before .before .before .before .before .before .before .pre),
+      message-in (now (z .s)) a (a .event .issuer) (a .event .said) snZero (a .event .said) (λ i. omega (arith, start .shared-slice-known .given i)) (start .before .pre),
       b6 .before .before .threshold-fits .ensures,
       b6 .before .before .before .backer-set .ensures,
       b9 .before .check-members .ensures .0,
       b9 .before .before .accept-if2 .ensures,
-      b9 .before .before .before .size .ensures .0,
-      b12 .before .no-backers .ensures,
+      b9 .before .before .before .no-backers .ensures,
+      few,
+      size .ensures .0,
       b12 .before .before .accept-if .ensures,
       b12 .before .before .before .names-issuer .ensures (now (z .s)) (a .carried) (a .management),
     )
@@ -93,8 +97,8 @@ vcp-answer-spec =
     (tie.spec
     names-issuer-requires
     accept-if-requires
-    no-backers-requires
     size-requires
+    no-backers-requires
     accept-if-requires-2
     check-members-requires
     backer-set-requires
