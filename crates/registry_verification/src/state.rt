@@ -44,10 +44,8 @@ pub fn updated_members(s: &[u8], current: Members, cuts: Listed, additions: List
         }
     }
     if 16 < count + more {
-        return Updated {
-            ok: false,
-            members: current.trimmed(),
-        };
+        let members = current.trimmed();
+        return Updated { ok: false, members };
     }
     let mut c = additions.start;
     let mut j: usize = 0;

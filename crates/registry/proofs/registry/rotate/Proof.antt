@@ -1,6 +1,6 @@
 use denote.Ref.{now}
 use mathlib.Core.Path.{_≡_, refl, sym, ap, _∙_}
-use mathlib.Core.Bool.{true, false}
+use mathlib.Core.Bool.{true}
 use Rattle.events.specs.Members.{view}
 use Rattle.events_tel.specs.declared.tel.Kind.{Kind}
 use Rattle.events_tel.specs.TelEvents.{membersIn, eventAs}

@@ -1,7 +1,6 @@
 use Prim.Native.Nat.{ℕ, _<_, _≤_, _-_}
 use mathlib.Core.Path.{_≡_, refl, ap, sym, _∙_}
-use mathlib.Core.Bool.{false, cond}
-use mathlib.Core.List.{List}
+use mathlib.Core.Bool.{false}
 use native.Mathlib.Omega.{arith}
 use denote.Ref.{now}
 use lib.ListN.{length, take}
@@ -9,7 +8,6 @@ use lib.Seq.{take-all}
 use borrow.Author.Needs.{needs}
 use borrow.Author.Count.{below-more}
 use Rattle.laws.proofs.Views.{length-mapped}
-use Rattle.cesr.specs.declared.primitive.BasicPrefix.{BasicPrefix}
 use Rattle.events.specs.Members.{view, has, breaks}
 use Rattle.events.proofs.Members.{view-size, view-at, has-step, check-found, all-sound}
 use Rattle.codec.proofs.Loops.{times-next}
