@@ -74,13 +74,16 @@ unfolding ingestMessage
 ingest-refused g m x e k = rw (← e, k)
 
 -- a rotation: the next state where it is accepted, else the old one
-pub rotate-ingested : (s : List ℕ) (g : RegistryState) (a : Attempt) (x : Answer) (n : RegistryState) (t : Bool) → x ≡ ingestEvent (viewRegistry g) (viewAttempt s a .event) (viewAttempt s a) → accepts x ≡ t → (accepts x ≡ true → viewRegistry n ≡ rotated (viewRegistry g) (viewAttempt s a .event)) → n .configs ≡ g .configs → n .backers .count ≤ 16 → Ingested s g a (record { answer = x; state = cond t n g })
-rotate-ingested s g a x n true e h f c b =
-    record
-    { outcome = ingest-accepted (viewRegistry g) (viewAttempt s a) x (viewRegistry n) e h (f h); kept = λ k. absurd (false≢true (sym k ∙ h)); counts = λ k. (c, b) }
-rotate-ingested s g a x n false e h f c b =
-    record
-    { outcome = ingest-refused (viewRegistry g) (viewAttempt s a) x e h; kept = λ k. refl; counts = λ k. absurd (false≢true (sym h ∙ k)) }
+module _ (s : List ℕ) (g : RegistryState) (a : Attempt) (x : Answer) (e : x ≡ ingestEvent (viewRegistry g) (viewAttempt s a .event) (viewAttempt s a)) where
+  pub rotate-accepted : (n : RegistryState) → accepts x ≡ true → viewRegistry n ≡ rotated (viewRegistry g) (viewAttempt s a .event) → n .configs ≡ g .configs → n .backers .count ≤ 16 → Ingested s g a (record { answer = x; state = n })
+  rotate-accepted n h f c b =
+      record
+      { outcome = ingest-accepted (viewRegistry g) (viewAttempt s a) x (viewRegistry n) e h f; kept = λ k. absurd (false≢true (sym k ∙ h)); counts = λ k. (c, b) }
+
+  pub rotate-refused : accepts x ≡ false → Ingested s g a (record { answer = x; state = g })
+  rotate-refused h =
+      record
+      { outcome = ingest-refused (viewRegistry g) (viewAttempt s a) x e h; kept = λ k. refl; counts = λ k. absurd (false≢true (sym h ∙ k)) }
 
 -- a refusal of a kind
 pub refused-ingested : (s : List ℕ) (g : RegistryState) (a : Attempt) (r : RegistryOutcome) (x : RegistryRejection) → r .answer ≡ Rejected x → r .state ≡ g → ingestEvent (viewRegistry g) (viewAttempt s a .event) (viewAttempt s a) ≡ Rejected x → Ingested s g a r

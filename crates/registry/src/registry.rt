@@ -1,6 +1,4 @@
 // The rotations of a registry (docs/RULES.md, "Orders", "Next states").
-use codec::section::members_in;
-use events::member_set::MemberSet;
 use events::member_set::Members;
 use events_tel::tel::Kind;
 use registry_answer::answer::accept_if;
@@ -15,12 +13,14 @@ use registry_error::error::RegistryRejection;
 use registry_inception::registry::RegistryOutcome;
 use registry_inception::registry::threshold_fits;
 use registry_state::state::RegistryState;
+use registry_verification::deltas::check_current;
+use registry_verification::deltas::check_deltas;
 use registry_verification::sequence::next_sn;
 use registry_verification::state::updated_members;
 use registry_wire::attempt::Attempt;
 ghost use Prim.Native.Nat.{_≤_};
 ghost use mathlib.Core.Path.{_≡_};
-ghost use mathlib.Core.Bool.{true, false, cond};
+ghost use mathlib.Core.Bool.{true, false};
 ghost use Rattle.events.specs.Members.{view};
 ghost use Rattle.events_tel.specs.TelEvents.{membersIn};
 ghost use Rattle.events_tel.specs.declared.tel.Kind.the-variants.{Vrt};
@@ -45,15 +45,15 @@ fn vrt_backers(current: Members, a: Attempt, s: &[u8]) -> Rotation
     ensures list { λ r. ⌜ (accepts (r .answer) ≡ true → view (r .backers) ≡ updatedMembers (view current) (membersIn (now (s .entry)) (a .event .backers)) (membersIn (now (s .entry)) (a .event .additions))) ⌝ }
     ensures count { λ r. ⌜ r .backers .count ≤ 16 ⌝ }
 {
-    let cuts = members_in(s, a.event.backers);
-    let additions = members_in(s, a.event.additions);
+    let cuts = a.event.backers;
+    let additions = a.event.additions;
     let toad = a.event.toad;
-    let deltas = backer_set(MemberSet::check_deltas(cuts, additions));
-    let members = backer_set(MemberSet::check_current(current, cuts, additions));
-    let after = updated_members(current, cuts, additions);
+    let deltas = backer_set(check_deltas(s, cuts, additions));
+    let members = backer_set(check_current(s, current, cuts, additions));
+    let after = updated_members(s, current, cuts, additions);
     let limit = accept_if(after.ok, RegistryRejection::TooManyBackers);
-    let backers = after.members.trimmed();
-    let count = backers.size();
+    let backers = after.members;
+    let count = backers.count;
     let threshold = threshold_fits(toad, count);
     let receipts = enough_receipts(s, a.signatures, count, toad);
     let late = or_else(threshold, or_else(receipts, Answer::Accepted));
@@ -85,16 +85,6 @@ fn vrt_answer(g: RegistryState, a: Attempt, s: &[u8], backers: Answer) -> Answer
     or_else(routed, or_else(flavor, or_else(place, late)))
 }
 
-// The next state where an attempt is accepted, else the old one.
-fn replaced(accepted: bool, old: RegistryState, next: RegistryState) -> RegistryState
-    ensures { λ r. ⌜ r ≡ cond accepted next old ⌝ }
-{
-    if accepted {
-        return next;
-    }
-    old
-}
-
 // A vrt's answer, and the state that it leaves: id, issuer and config stay.
 fn rotate(g: RegistryState, a: Attempt, s: &[u8]) -> RegistryOutcome
     requires { ⌜ Anchored (now s) a × (a .event .kind ≡ Vrt) ⌝ }
@@ -119,8 +109,13 @@ fn rotate(g: RegistryState, a: Attempt, s: &[u8]) -> RegistryOutcome
         configs,
         backers,
     };
-    let state = replaced(accepts(answer), g, next);
-    RegistryOutcome { answer, state }
+    if accepts(answer) {
+        return RegistryOutcome {
+            answer,
+            state: next,
+        };
+    }
+    RegistryOutcome { answer, state: g }
 }
 
 // A refusal: the state stays.

@@ -1,3 +1,4 @@
+pub mod Listed
 pub mod Marked
 pub mod Survivors
 pub mod Starred

@@ -1,4 +1,4 @@
-use Prim.Native.Nat.{min}
+use Prim.Native.Nat.{ℕ}
 use native.Mathlib.Omega.{arith}
 use lib.ListN.{length}
 use Rattle.events.specs.Members.{view, checkDeltas, checkCurrent}
@@ -9,21 +9,20 @@ use Rattle.registry_backer.specs.Backers.{enoughReceipts}
 use Rattle.registry_inception.specs.InceptionFolds.{thresholdFits}
 use Rattle.registry.specs.RegistryFolds.{vrtBackers}
 use denote.Ref.{now}
-use mathlib.Core.Path.{_≡_, _∙_}
-use mathlib.Core.Bool.{cond}
+use mathlib.Core.Path.{_≡_, ap, sym, _∙_}
 use Rattle.registry_seals.specs.SignatureSections.{signaturesIn}
 use Rattle.registry_verification.specs.Updated.{updatedMembers}
 use Rattle.registry.proofs.RegistryLaws.{limit-chain, limit-list}
+use Rattle.laws.proofs.Views.{length-mapped}
+use Rattle.events.proofs.Members.{view-size}
 use borrow.Author.Needs.{needs}
 use Rattle.events_tel.specs.TelEvents.{membersIn}
 use Rattle.registry.proofs.registry.vrt_backers.Statement.{statement}
 use Rattle.registry.proofs.registry.vrt_backers.Tie as tie
 
-members-in-requires : tie.Need-members-in-requires
-members-in-requires c κs = search needs
-
-members-in-requires-2 : tie.Need-members-in-requires-2
-members-in-requires-2 c κs = search needs
+-- the members after a rotation are as many as their count says
+full : (c : tie.After-updated-members) → length (c .updated-members .result .members .items) ≡ 16
+full c = search length-mapped
 
 check-deltas-requires : tie.Need-check-deltas-requires
 check-deltas-requires c κs = search needs
@@ -42,12 +41,6 @@ updated-members-requires c κs = search needs
 
 accept-if-requires : tie.Need-accept-if-requires
 accept-if-requires c κs = search needs
-
-trimmed-requires : tie.Need-trimmed-requires
-trimmed-requires c κs = search needs
-
-size-requires : tie.Need-size-requires
-size-requires c κs = search needs
 
 threshold-fits-requires : tie.Need-threshold-fits-requires
 threshold-fits-requires c κs = search needs
@@ -75,51 +68,45 @@ unfolding vrtBackers firstOf
 returns c =
     let b3 = c .before .before .before in
     let b6 = b3 .before .before .before in
-    let size = b6 .before .size in
-    let few : min (size .result) 16 ≡ size .result = omega (arith, size .ensures .0, size .ensures .1) in
-    let b9 = b6 .before .before .before .before in
+    let b9 = b6 .before .before .before in
     let b12 = b9 .before .before .before in
     let z = b12 .before .before .before .before .before .before .args in
     let e = z .a .event in
     let toad = e .toad .0 in
     let cuts = membersIn (now (z .s)) (e .backers) in
     let additions = membersIn (now (z .s)) (e .additions) in
-    let m2 = b12 .before .before .before .members-in2 .ensures .0 in
-    let m1 = b12 .before .before .before .before .members-in .ensures .0 in
     let u = updatedMembers (view (z .current)) cuts additions in
-    let after = b9 .updated-members .result in
-    let trimmed = b6 .before .before .trimmed in
-    let v = view (trimmed .result) in
-    let w : v ≡ cond (after .ok) u (view (z .current)) = rw (← m1, ← m2) (trimmed .ensures .0 ∙ b9 .updated-members .ensures .1) in
-    let fits = rw (m1, m2) at (b9 .updated-members .ensures .0) in
+    let after = b9 .updated-members in
+    let v = view (after .result .members) in
+    let size = view-size (after .result .members) (full b9) in
+    let count : after .result .members .count ≡ length v = omega (arith, size, after .ensures .1 .1) in
+    let w = after .ensures .1 .0 in
     let l = signaturesIn (now (z .s)) (z .a .signatures) in
+    let threshold : b6 .threshold-fits .result ≡ thresholdFits toad (length v) = b6 .threshold-fits .ensures ∙ ap (thresholdFits toad) count in
+    let receipts : b3 .before .before .enough-receipts .result ≡ enoughReceipts toad (length v) l = b3 .before .before .enough-receipts .ensures ∙ ap (λ (n : ℕ). enoughReceipts toad n l) (sym size) in
     let deltas = backerSet (checkDeltas cuts additions) in
     let members = backerSet (checkCurrent (view (z .current)) cuts additions) in
     let rest = orElse (thresholdFits toad (length v)) (orElse (enoughReceipts toad (length v) l) Accepted) in
-    let x : c .or-else5 .result ≡ orElse deltas (orElse members (orElse (acceptIf (after .ok) TooManyBackers) rest)) =
+    let x : c .or-else5 .result ≡ orElse deltas (orElse members (orElse (acceptIf (after .result .ok) TooManyBackers) rest)) =
     rw (
       c .or-else5 .ensures,
       c .before .or-else4 .ensures,
       c .before .before .or-else3 .ensures,
       b3 .or-else2 .ensures,
       b3 .before .or-else .ensures,
-      b3 .before .before .enough-receipts .ensures,
-      b6 .threshold-fits .ensures,
-      few,
-      size .ensures .0,
-      b6 .before .before .before .accept-if .ensures,
+      receipts,
+      threshold,
+      b6 .before .before .accept-if .ensures,
       b9 .before .backer-set2 .ensures,
-      b9 .before .before .check-current .ensures .0,
+      b9 .before .before .check-current .ensures,
       b12 .backer-set .ensures,
-      b12 .before .check-deltas .ensures .0,
-      m1,
-      m2,
+      b12 .before .check-deltas .ensures,
     ) in
-    let chain = limit-chain (after .ok) toad u v (view (z .current)) l w in (
-      x ∙ rw (chain, ← fits),
+    let chain = limit-chain (after .result .ok) toad u v (view (z .current)) l w in (
+      x ∙ rw (chain, ← after .ensures .0),
       (
-        (λ h. limit-list deltas members rest (after .ok) u v (view (z .current)) w (rw x at h)),
-        trimmed .ensures .1,
+        (λ h. limit-list deltas members rest (after .result .ok) u v (view (z .current)) w (rw x at h)),
+        after .ensures .1 .1,
       ),
     )
 
@@ -127,16 +114,12 @@ pub vrt-backers-spec : {M : Type 1} → statement M
 vrt-backers-spec =
     tie.close
     (tie.spec
-    members-in-requires
-    members-in-requires-2
     check-deltas-requires
     backer-set-requires
     check-current-requires
     backer-set-requires-2
     updated-members-requires
     accept-if-requires
-    trimmed-requires
-    size-requires
     threshold-fits-requires
     enough-receipts-requires
     or-else-requires

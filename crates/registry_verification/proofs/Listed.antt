@@ -1,0 +1,97 @@
+-- Lists that stay in the bytes, and the rules on them.
+--     times-size, times-front, times-at, times-behind
+--                                         how many elements are read, the first of them, one of them, and one more
+--     all-listed                          a list that stays in the bytes, by its size
+--     listed-at, has-more                 a prefix that a loop reads, and one prefix more that is looked at
+--     breaks-is, listed-breaks, current-breaks
+--                                         whether a place breaks a rule, by what its element is held against
+use Prim.Native.Nat.{ℕ, zero, suc, _+_, _<_, _≤_, min}
+use mathlib.Core.Path.{_≡_, refl, ap, _∙_}
+use mathlib.Core.Bool.{Bool, true, false, cond, not, _||_, or-false}
+use mathlib.Core.List.{List, [], _∷_, _++_, append-assoc}
+use native.Mathlib.Omega.{arith}
+use native.Mathlib.Numerals.{add-one}
+use native.Mathlib.Decide.{ℕ-discrete}
+use lib.ListN.{length, take, getD, length-append, List·getD-append}
+use lib.Seq.{take-all, take-append-le, getD-at}
+use Rattle.cesr.specs.declared.primitive.BasicPrefix.{BasicPrefix}
+use Rattle.cesr.specs.Primitives.{eqPrefix}
+use Rattle.events.specs.declared.member_set.Rule.{Rule}
+use Rattle.events.specs.declared.member_set.Rule.the-variants.{DuplicateBacker, DuplicateCut, DuplicateAddition, CutAddOverlap, RemovalNotCurrent, AdditionAlreadyPresent}
+use Rattle.events.specs.Members.{at, noPrefix, has, breaks, isRepeat, isMissing}
+use Rattle.events.proofs.Members.{has-append}
+use Rattle.events_tel.specs.declared.tel.Listed.{Listed}
+use Rattle.events_tel.specs.TelEvents.{membersIn}
+use Rattle.codec_cursor.specs.declared.cursor.Cursor.{Cursor}
+use Rattle.codec_cursor.specs.Readers.{Read, Reader, readPrefix, times}
+
+module _ {A : Type 0} (p : Reader A) (s : List ℕ) (c : Cursor) where
+  pub times-size : (n : ℕ) → length (times n p s c .value) ≡ n
+  unfolding times
+  times-size zero = refl
+  times-size (suc n) = rw (length-append, times-size n) (add-one n)
+
+  -- fewer elements are the first of more
+  pub times-front : (n i : ℕ) → i ≤ n → take i (times n p s c .value) ≡ times i p s c .value
+  unfolding times
+  times-front zero zero b = refl
+  times-front zero (suc i) b = absurd (omega arith)
+  times-front (suc n) i b = go (ℕ-discrete i (suc n)) (times-front n i)
+    where
+      go : Dec (i ≡ suc n) → (i ≤ n → take i (times n p s c .value) ≡ times i p s c .value) → take i (times (suc n) p s c .value) ≡ times i p s c .value
+      go (yes e) less = rw e (take-all (suc n) (times (suc n) p s c .value) (omega (arith, times-size (suc n))))
+      go (no d) less = take-append-le i (times n p s c .value) _ (omega (arith, times-size n)) ∙ less (omega arith)
+
+  pub times-at : (n i : ℕ) (d : A) → i < n → getD (times n p s c .value) i d ≡ p s (times i p s c .next) .value
+  unfolding times
+  times-at zero i d b = absurd (omega arith)
+  times-at (suc n) i d b = go (ℕ-discrete i n) (times-at n i d)
+    where
+      go : Dec (i ≡ n) → (i < n → getD (times n p s c .value) i d ≡ p s (times i p s c .next) .value) → getD (times (suc n) p s c .value) i d ≡ p s (times i p s c .next) .value
+      go (yes e) less = rw e (getD-at (times n p s c .value) _ [] d n (times-size n))
+      go (no h) less = List·getD-append (times n p s c .value) _ d i (omega (arith, times-size n)) ∙ less (omega arith)
+
+  -- one element more, behind others
+  pub times-behind : (a : List A) (i : ℕ) (d : Cursor) (r : Read A) → d ≡ times i p s c .next → r ≡ p s d → (a ++ times i p s c .value) ++ (r .value ∷ []) ≡ a ++ times (i + 1) p s c .value
+  unfolding times
+  times-behind a i d r e f = rw (add-one, ← e, ← f) (append-assoc a (times i p s c .value) (r .value ∷ []))
+
+-- a list that stays in the bytes, by its size
+pub all-listed : (s : List ℕ) (l : Listed) (n : ℕ) → n ≡ min (l .count) 16 → membersIn s l ≡ times n readPrefix s (l .start) .value
+unfolding membersIn
+all-listed s l n e = rw e
+
+-- the prefix that a loop reads behind i others is the one at i
+pub listed-at : (s : List ℕ) (l : Cursor) (n i : ℕ) (c : Cursor) (r : Read BasicPrefix) → i < n → c ≡ times i readPrefix s l .next → r ≡ readPrefix s c → at (times n readPrefix s l .value) i ≡ r .value
+listed-at s l n i c r b e f = times-at readPrefix s l n i noPrefix b ∙ rw (← e, ← f)
+
+-- one prefix more is looked at
+pub has-more : (s : List ℕ) (start c : Cursor) (i : ℕ) (x : BasicPrefix) (r : Read BasicPrefix) (found same : Bool) → c ≡ times i readPrefix s start .next → r ≡ readPrefix s c → found ≡ has x (times i readPrefix s start .value) → same ≡ eqPrefix (r .value) x → (found || same) ≡ has x (times (i + 1) readPrefix s start .value)
+unfolding times has
+has-more s start c i x r found same e f g h =
+    rw (add-one, has-append x (times i readPrefix s start .value) (readPrefix s (times i readPrefix s start .next) .value ∷ []), ← e, ← f, ← g, ← h, or-false same)
+
+-- whether a place breaks a rule, by what its element is held against
+pub breaks-is : (r : Rule) (l o : List BasicPrefix) (i : ℕ) → breaks r l o i ≡ cond (isMissing r) (not (has (at l i) (cond (isRepeat r) (take i l) o))) (has (at l i) (cond (isRepeat r) (take i l) o))
+unfolding breaks
+breaks-is DuplicateBacker l o i = refl
+breaks-is DuplicateCut l o i = refl
+breaks-is DuplicateAddition l o i = refl
+breaks-is CutAddOverlap l o i = refl
+breaks-is RemovalNotCurrent l o i = refl
+breaks-is AdditionAlreadyPresent l o i = refl
+
+-- the same of a place in the bytes, whose element is held against n prefixes in the bytes, and for a repeat against those before it
+module _ (s : List ℕ) (rule : Rule) (repeat : Bool) (e : isRepeat rule ≡ repeat) (m : isMissing rule ≡ false) (l o : Cursor) (n : ℕ) (same : repeat ≡ true → o ≡ l) where
+  pub listed-breaks : (size i : ℕ) (c : Cursor) (r : Read BasicPrefix) (end : ℕ) (found : Bool) → i < size → c ≡ times i readPrefix s l .next → r ≡ readPrefix s c → end ≡ cond repeat i n → found ≡ has (r .value) (times end readPrefix s o .value) → breaks rule (times size readPrefix s l .value) (cond repeat [] (times n readPrefix s o .value)) i ≡ found
+  listed-breaks size i c r end found b f g h k =
+      breaks-is rule (times size readPrefix s l .value) (cond repeat [] (times n readPrefix s o .value)) i ∙ rw (m, e, listed-at s l size i c r b f g, k, h) (ap (has (r .value)) (go repeat same))
+    where
+      go : (t : Bool) → (t ≡ true → o ≡ l) → cond t (take i (times size readPrefix s l .value)) (cond t [] (times n readPrefix s o .value)) ≡ times (cond t i n) readPrefix s o .value
+      go true q = rw (q refl) (times-front readPrefix s l size i (omega arith))
+      go false q = refl
+
+-- and of a place in the bytes, whose element is held against the current members
+pub current-breaks : (s : List ℕ) (rule : Rule) (missing : Bool) → isRepeat rule ≡ false → isMissing rule ≡ missing → (l : Cursor) (o : List BasicPrefix) (size i : ℕ) (c : Cursor) (r : Read BasicPrefix) (found t : Bool) → i < size → c ≡ times i readPrefix s l .next → r ≡ readPrefix s c → found ≡ has (r .value) o → t ≡ cond missing (not found) found → breaks rule (times size readPrefix s l .value) o i ≡ t
+current-breaks s rule missing e m l o size i c r found t b f g h k =
+    breaks-is rule (times size readPrefix s l .value) o i ∙ rw (e, m, listed-at s l size i c r b f g, k, h)
