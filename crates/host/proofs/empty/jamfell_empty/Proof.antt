@@ -40,7 +40,7 @@ use Rattle.ledger_table.specs.declared.table.Ledger.{Ledger}
 use Rattle.ledger_table.proofs.table.Ledger as K
 use Rattle.ledger_table.proofs.table.Ledger.Laws as K′
 use Rattle.ledger_table.proofs.Spelled.{spelled, tells, Parts, parts, whole as ledger-is, length-g, length-w}
-use Rattle.host.proofs.LentLedger.{word, fields, Cell}
+use Rattle.host_laws.proofs.LentLedger.{word, fields, Cell}
 use Rattle.host.proofs.empty.jamfell_empty.Key.{name as #me}
 use Rattle.host.proofs.empty.jamfell_empty as me
 use Rattle.host.proofs.empty.jamfell_empty.Statement as stated
