@@ -6,8 +6,7 @@ use ledger_table::table::Ledger;
 ghost use mathlib.Core.Path.{_≡_};
 ghost use Rattle.ledger_step.specs.Ledgers.{lookUp};
 ghost use Rattle.ledger_table.specs.Tables.{viewLedger};
-ghost use Rattle.host_ledger.specs.Keys.{keyIn};
-ghost use Rattle.host.specs.Shown.{lookUpReport};
+ghost use Rattle.host_ledger.specs.LedgerCalls.{keyIn, lookUpReport};
 
 // The standing of a credential.
 #[no_mangle]

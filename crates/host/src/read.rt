@@ -6,7 +6,7 @@ ghost use mathlib.Core.Path.{_≡_};
 ghost use Rattle.ledger_image.specs.Images.{imageOf, imageNumber};
 ghost use Rattle.ledger_image.specs.Images.ImageAnswer.{refused};
 ghost use Rattle.ledger_table.specs.Tables.{viewLedger, ledgerAfter};
-ghost use Rattle.host_ledger.specs.LedgerReports.{readReport};
+ghost use Rattle.host_ledger.specs.LedgerCalls.{readReport};
 
 // After a refusal the block is as it was, whatever stands in it.
 #[no_mangle]

@@ -5,7 +5,7 @@ use ledger_write::write::write_image;
 ghost use mathlib.Core.Path.{_≡_};
 ghost use Rattle.ledger_image.specs.Images.{writtenOf};
 ghost use Rattle.ledger_table.specs.Tables.{viewLedger};
-ghost use Rattle.host.specs.Shown.{imageReport};
+ghost use Rattle.host_ledger.specs.LedgerCalls.{imageReport};
 
 // The image, from the buffer's start. After a refusal the buffer is as it was, and so are the bytes behind an image.
 #[no_mangle]

@@ -2,7 +2,7 @@
 use cesr::primitive::Matter;
 use cesr::primitive::Said;
 ghost use mathlib.Core.Path.{_≡_};
-ghost use Rattle.host_ledger.specs.Keys.{saidIn, keyIn, viewKey};
+ghost use Rattle.host_ledger.specs.LedgerCalls.{saidIn, keyIn, viewKey};
 
 // What a look-up asks for.
 pub struct Key {

@@ -5,7 +5,7 @@ use host_values::values::small;
 use ledger_lookup::lookup::LookedUp;
 use ledger_write::write::Written;
 ghost use mathlib.Core.Path.{_≡_};
-ghost use Rattle.host_ledger.specs.LedgerReports.{lookedUpReport, writtenReport, readReport};
+ghost use Rattle.host_ledger.specs.LedgerCalls.{lookedUpReport, writtenReport, readReport};
 
 pub fn report_looked_up(answer: LookedUp, report: &mut [u8; 36]) -> u8
     ensures { λ r. ⌜ (r ≡ answer .refusal) × (now (report .exit) ≡ lookedUpReport answer) ⌝ }

@@ -53,12 +53,11 @@ use Rattle.ledger_table.specs.Tables.{viewLedger}
 use Rattle.ledger_table.specs.declared.table.Ledger.{Ledger}
 use Rattle.ledger_table.proofs.table.Ledger as K
 use Rattle.ledger_table.proofs.Spelled.{Parts, length-g, length-w, viewed}
-use Rattle.host_ledger.specs.LedgerReports.{lookedUpReport}
-use Rattle.host_ledger.specs.Keys.{keyIn, viewKey}
+use Rattle.host_ledger.specs.LedgerCalls.{keyIn, viewKey, lookedUpReport, lookUpReport}
+use Rattle.host_ledger.proofs.ReportedAnswers.{looked-up-told}
 use Rattle.host_ledger.specs.declared.key.Key.{Key}
 use Rattle.host_ledger.proofs.key.Key as Y
 use Rattle.host_ledger.proofs.key.Key.Laws as Y′
-use Rattle.host.specs.Shown.{lookUpReport}
 use Rattle.host_laws.proofs.ShownLedger.{aref-g, slice-g, aref-w, slice-w, Rep, at-rows, Cell, Own-gs, Own-ws, opens, lends, shuts, registries-at, rows-at, registry-count, row-count}
 use Rattle.ledger_lookup.proofs.lookup.look_up as seek
 use Rattle.ledger_lookup.proofs.lookup.look_up.Symbol as look-def
@@ -171,8 +170,7 @@ module _ {M : Type 1} (𝓤 : URA M) (H : Heap 𝓤) (A : Atoms 𝓤) (W : Given
   -- what the three calls say
   told : (k : Key) (a : Answered) (r : ℕ) (rep′ : List ℕ) → viewKey k ≡ keyIn reg cred → viewLookedUp a ≡ lookUp (lentLedger gs m ws n) (viewKey k) → (r ≡ a .refusal) × (rep′ ≡ lookedUpReport a) → (r ≡ wanted .refusal) × (rep′ ≡ lookUpReport wanted)
   told k a r rep′ e-key e-look e-rep =
-      let e : viewLookedUp a ≡ wanted = e-look ∙ ap (λ z. lookUp z (viewKey k)) (viewed ledger) ∙ ap (lookUp (viewLedger ledger)) e-key in
-      (e-rep .0 ∙ ap (λ (z : LookedUp). z .refusal) e, e-rep .1 ∙ ap lookUpReport e)
+      looked-up-told a wanted r rep′ (e-look ∙ ap (λ z. lookUp z (viewKey k)) (viewed ledger) ∙ ap (lookUp (viewLedger ledger)) e-key) e-rep
 
   -- ---- the call of `key_in`
   abbrev arg-key : RefT (List ℕ) × (RefT (List ℕ) × Unit {0})

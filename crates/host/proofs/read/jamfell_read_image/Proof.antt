@@ -47,7 +47,7 @@ use Rattle.ledger_read.proofs.read.ImageRead.Laws as I′
 use Rattle.ledger_read.proofs.ReadBack.{ReadInto}
 use Rattle.ledger_table.proofs.Spelled.{Parts, length-g, length-w}
 use Rattle.ledger_table.proofs.ReadLedger.{next, answer-is, read-view, read-kept}
-use Rattle.host_ledger.specs.LedgerReports.{readReport}
+use Rattle.host_ledger.specs.LedgerCalls.{readReport}
 use Rattle.ledger_table.proofs.table.Ledger as K
 use Rattle.host_laws.proofs.LentLedger.{word, Count-g, Count-w, ref-gs, val-gs, Own-gs, ref-ws, val-ws, Own-ws, Kept}
 use Rattle.host_laws.proofs.LentCalls.{Call, bytes-36, stayed, gs, m, ws, n, κs, qs, ref-bytes, val-bytes, Own-bytes, ref-36, Own-report, x, at, called, gone, Shut, Open, Left, has-left, lends-on, closes-at, Blocks, En, answer, number, Unanswered, Answered, begins, leaves}

@@ -51,8 +51,8 @@ use Rattle.ledger_table.specs.Tables.{viewLedger}
 use Rattle.ledger_table.specs.declared.table.Ledger.{Ledger}
 use Rattle.ledger_table.proofs.table.Ledger as K
 use Rattle.ledger_table.proofs.Spelled.{Parts, length-g, length-w, viewed}
-use Rattle.host_ledger.specs.LedgerReports.{writtenReport}
-use Rattle.host.specs.Shown.{imageReport}
+use Rattle.host_ledger.specs.LedgerCalls.{writtenReport, imageReport}
+use Rattle.host_ledger.proofs.ReportedAnswers.{written-told}
 use Rattle.host_laws.proofs.ShownLedger.{aref-g, slice-g, aref-w, slice-w, Rep, at-rows, Cell, Own-gs, Own-ws, opens, lends, shuts, registries-at, rows-at, registry-count, row-count}
 use Rattle.ledger_write.proofs.write.write_image as put
 use Rattle.ledger_write.proofs.write.write_image.Symbol as put-def
@@ -148,8 +148,7 @@ module _ {M : Type 1} (𝓤 : URA M) (H : Heap 𝓤) (A : Atoms 𝓤) (W : Given
   -- what the two calls say
   told : (a : Answered) (r : ℕ) (out′ rep′ : List ℕ) → viewWritten a out′ ≡ writtenOf (lentLedger gs m ws n) out → (r ≡ a .number) × (rep′ ≡ writtenReport a) → (r ≡ wanted .number) × (rep′ ≡ imageReport wanted) × (out′ ≡ wanted .bytes)
   told a r out′ rep′ e-wrote e-rep =
-      let e : viewWritten a out′ ≡ wanted = e-wrote ∙ ap (λ z. writtenOf z out) (viewed ledger) in
-      (e-rep .0 ∙ ap (λ (z : Written). z .number) e, e-rep .1 ∙ ap imageReport e, ap (λ (z : Written). z .bytes) e)
+      written-told a wanted r out′ rep′ (e-wrote ∙ ap (λ z. writtenOf z out) (viewed ledger)) e-rep
 
   -- ---- the call of `write_image`, where the arrays are lent for the lifetime ν under the names δ and ε
   module _ (has : Parts ledger) (ν : ℕ) (δ ε : GName) where

@@ -1,6 +1,6 @@
 use borrow.Author.Needs.{needs}
 use borrow.Author.Tests.{ne-eqb}
-use Rattle.host_ledger.specs.Keys.{saidIn}
+use Rattle.host_ledger.specs.LedgerCalls.{saidIn}
 use Rattle.host_ledger.proofs.key.said_in.Statement.{statement}
 use Rattle.host_ledger.proofs.key.said_in.Tie as tie
 
