@@ -21,7 +21,8 @@ use Rattle.registry.specs.RegistryFolds as G
 use Rattle.registry_issue.specs.IssueFolds as I
 use Rattle.registry_credential_state.specs.CredentialFolds as W
 use Rattle.registry_credential.specs.Status.{statusOf}
-use Rattle.host_report.specs.Reports.{rejectionReport, answerReport, statusReport}
+use Rattle.host_report.specs.Reports.{rejectionReport, answerReport}
+use Rattle.host_status.specs.StatusReports.{statusReport}
 use Rattle.folds.specs.declared.part.Finding.{Finding}
 use Rattle.folds.specs.declared.part.RegistryPart.{RegistryPart}
 use Rattle.folds.specs.declared.part.CredentialPart.{CredentialPart}

@@ -7,7 +7,7 @@ use crate::registry_case::judge_incept;
 use crate::registry_case::judge_rotate;
 use cesr::number::read_u8;
 use cesr::number::read_u16;
-use host_folds::credential_calls::status;
+use host_status::status_calls::status;
 use registry_wire::attempt::Part;
 ghost use mathlib.Core.Path.{_≡_};
 ghost use Rattle.folds.specs.Judgement.{judgeStatus, judgeCall, judgeOf};

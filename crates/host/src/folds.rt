@@ -1,16 +1,19 @@
 // The folds over bytes, `status` and thresholds.
-use host_folds::credential_calls::credential_incept;
-use host_folds::credential_calls::credential_ingest;
-use host_folds::credential_calls::status;
-use host_folds::registry_calls::registry_incept;
-use host_folds::registry_calls::registry_ingest;
-use host_folds::toad_calls::ample;
-use host_folds::toad_calls::exact;
+use host_credential::credential_calls::credential_incept;
+use host_credential::credential_calls::credential_ingest;
+use host_registry::registry_calls::registry_incept;
+use host_registry::registry_calls::registry_ingest;
+use host_status::status_calls::status;
+use host_toad::toad_calls::ample;
+use host_toad::toad_calls::exact;
 ghost use mathlib.Core.Path.{_≡_};
 ghost use Rattle.events_toad.specs.Toads.{exactOf, ampleOf, toadNumber};
 ghost use Rattle.registry_credential.specs.Status.{statusOf, statusNumber};
-ghost use Rattle.host_report.specs.Reports.{statusReport, exactReport, ampleReport};
-ghost use Rattle.host_folds.specs.ByteFolds.{registryIncept, registryIngest, credentialIncept, credentialIngest, called, callOf};
+ghost use Rattle.host_toad.specs.ThresholdReports.{exactReport, ampleReport};
+ghost use Rattle.host_status.specs.StatusReports.{statusReport};
+ghost use Rattle.host_next.specs.ByteFolds.{called, callOf};
+ghost use Rattle.host_registry.specs.RegistryByteFolds.{registryIncept, registryIngest};
+ghost use Rattle.host_credential.specs.CredentialByteFolds.{credentialIncept, credentialIngest};
 
 // The fold of a vcp. The next state's bytes go to the start of `next`.
 #[no_mangle]

@@ -1,12 +1,12 @@
 // An image, read into a ledger that a host lends as one block (docs/RULES.md, "Image", "Host's calls"). Both arrays are lent on where they lie, so nothing of the table is copied.
-use host_report::report::report_read;
+use host_ledger::report::report_read;
 use ledger_read::read::read_image;
 use ledger_table::table::Ledger;
 ghost use mathlib.Core.Path.{_≡_};
 ghost use Rattle.ledger_image.specs.Images.{imageOf, imageNumber};
 ghost use Rattle.ledger_image.specs.Images.ImageAnswer.{refused};
 ghost use Rattle.ledger_table.specs.Tables.{viewLedger, ledgerAfter};
-ghost use Rattle.host_report.specs.Reports.{readReport};
+ghost use Rattle.host_ledger.specs.LedgerCalls.{readReport};
 
 // After a refusal the block is as it was, whatever stands in it.
 #[no_mangle]

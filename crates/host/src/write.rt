@@ -1,11 +1,11 @@
 // The image of a ledger that a host lends as one block (docs/RULES.md, "Host's calls", "Image"). Both arrays are lent on where they lie, so nothing of the table is copied.
-use host_report::report::report_written;
+use host_ledger::report::report_written;
 use ledger_table::table::Ledger;
 use ledger_write::write::write_image;
 ghost use mathlib.Core.Path.{_≡_};
 ghost use Rattle.ledger_image.specs.Images.{writtenOf};
 ghost use Rattle.ledger_table.specs.Tables.{viewLedger};
-ghost use Rattle.host.specs.Shown.{imageReport};
+ghost use Rattle.host_ledger.specs.LedgerCalls.{imageReport};
 
 // The image, from the buffer's start. After a refusal the buffer is as it was, and so are the bytes behind an image.
 #[no_mangle]

@@ -1,7 +1,6 @@
 -- Laws of the bytes of a report.
 --     report-put   its marks and its two values, stored one behind the other in 36 bytes, are the report
---     length-report, length-answer, length-status   a report has 36 bytes
---     toad-number   the number of a threshold's answer
+--     length-report, length-answer   a report has 36 bytes
 use Prim.Native.Nat.{ℕ, _+_, _≤_}
 use mathlib.Core.Path.{_≡_, refl, ap, sym, _∙_}
 use mathlib.Core.List.{List, [], _∷_, _++_, append-nil}
@@ -14,15 +13,9 @@ use Rattle.laws.proofs.Number.{length-digits}
 use Rattle.laws.proofs.Room.{put-sets, put-append}
 use Rattle.cesr.specs.declared.number.Sn.{Sn}
 use Rattle.cesr.specs.Numbers.{value, snBytes}
-use Rattle.events_toad.specs.Toads.{toadNumber}
-use Rattle.events_toad.specs.declared.toad.ToadResult.{ToadResult}
-use Rattle.events_toad.specs.declared.toad.ToadResult.the-variants.{Valid, OutOfRange, Overflow}
 use Rattle.registry_error.specs.declared.error.Answer.{Answer}
 use Rattle.registry_error.specs.declared.error.Answer.the-variants.{Accepted, Rejected}
-use Rattle.registry_error.specs.Errors.{answerNumber}
-use Rattle.registry_credential.specs.declared.credential.StatusOutcome.{StatusOutcome}
-use Rattle.registry_credential.specs.declared.credential.StatusOutcome.the-variants as S
-use Rattle.host_report.specs.Reports.{reportBytes, reportWith, statusReport, thresholdAnswer}
+use Rattle.host_report.specs.Reports.{reportBytes, reportWith}
 
 -- a run as long as the list stands in its place
 whole : (l vs : List ℕ) → length vs ≡ length l → sets l 0 vs ≡ vs
@@ -46,13 +39,3 @@ length-report number letter awaited values = simp (length-append, length-digits)
 pub length-answer : (a : Answer) (values : List ℕ) → length (reportWith a values) ≡ 36
 length-answer Accepted values = length-report _ _ _ _
 length-answer (Rejected r) values = length-report _ _ _ _
-
-pub length-status : (o : StatusOutcome) → length (statusReport o) ≡ 36
-length-status S.Accepted = length-report _ _ _ _
-length-status S.Malformed = length-report _ _ _ _
-length-status (S.Rejected e) = length-report _ _ _ _
-
-pub toad-number : (r : ToadResult) → answerNumber (thresholdAnswer r) ≡ toadNumber r
-toad-number (Valid t) = refl
-toad-number (OutOfRange t n) = refl
-toad-number (Overflow n) = refl

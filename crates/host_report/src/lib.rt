@@ -1,4 +1,2 @@
 // The reports of the host's calls (docs/RULES.md, "Host's calls").
-pub mod folds;
 pub mod report;
-pub mod values;

@@ -1,10 +1,8 @@
 // Reports, written whole to a lent buffer of 36 bytes (docs/RULES.md, "Host's calls"). Each writer answers the number that it writes.
-use crate::values::Values;
-use crate::values::awaited;
-use crate::values::details;
-use crate::values::small;
-use ledger_lookup::lookup::LookedUp;
-use ledger_write::write::Written;
+use host_values::values::Values;
+use host_values::values::awaited;
+use host_values::values::details;
+use host_values::values::small;
 use registry_error::error::Answer;
 use registry_error::error::RegistryRejection;
 ghost use mathlib.Core.Path.{_≡_};
@@ -13,7 +11,8 @@ ghost use Prim.Native.Nat.{_≤_};
 ghost use lib.ListN.{length};
 ghost use lib.Seq.{sets};
 ghost use Rattle.registry_error.specs.Errors.{numberOf, answerNumber};
-ghost use Rattle.host_report.specs.Reports.{valuesOf, reportBytes, rejectionReport, reportWith, answerReport, plainReport, lookedUpReport, writtenReport, readReport};
+ghost use Rattle.host_values.specs.ReportValues.{valuesOf};
+ghost use Rattle.host_report.specs.Reports.{reportBytes, rejectionReport, reportWith, answerReport, sizedReport, plainReport};
 
 // The first four bytes.
 fn put_marks(out: &mut [u8], number: u8, letter: u8, awaited: u8, count: u8)
@@ -41,7 +40,7 @@ pub fn write_report(
     number
 }
 
-pub(crate) fn report_rejection(r: RegistryRejection, report: &mut [u8; 36]) -> u8
+pub fn report_rejection(r: RegistryRejection, report: &mut [u8; 36]) -> u8
     ensures { λ n. ⌜ (n ≡ numberOf r) × (now (report .exit) ≡ rejectionReport r) ⌝ }
 {
     let d = r.disposition();
@@ -64,38 +63,19 @@ pub fn report_answer(answer: Answer, report: &mut [u8; 36]) -> u8
     report_with(answer, Values::Nothing, report)
 }
 
+// The report of a fold that leaves a state of so many bytes.
+pub fn report_sized(answer: Answer, size: usize, report: &mut [u8; 36]) -> u8
+    ensures { λ r. ⌜ (r ≡ answerNumber answer) × (now (report .exit) ≡ sizedReport answer size) ⌝ }
+{
+    report_with(answer, Values::One(small(size as u64)), report)
+}
+
 // The report of a call whose refusals are all terminal and have no details: the values are those of an acceptance.
-fn report_plain(number: u8, values: Values, report: &mut [u8; 36]) -> u8
+pub fn report_plain(number: u8, values: Values, report: &mut [u8; 36]) -> u8
     ensures { λ r. ⌜ (r ≡ number) × (now (report .exit) ≡ plainReport number (valuesOf values)) ⌝ }
 {
     if number == 0 {
         return write_report(0, b'A', 0, values, report);
     }
     write_report(number, b'T', 0, Values::Nothing, report)
-}
-
-pub fn report_looked_up(answer: LookedUp, report: &mut [u8; 36]) -> u8
-    ensures { λ r. ⌜ (r ≡ answer .refusal) × (now (report .exit) ≡ lookedUpReport answer) ⌝ }
-{
-    report_plain(
-        answer.refusal,
-        Values::One(small(answer.standing as u64)),
-        report,
-    )
-}
-
-pub fn report_written(answer: Written, report: &mut [u8; 36]) -> u8
-    ensures { λ r. ⌜ (r ≡ answer .number) × (now (report .exit) ≡ writtenReport answer) ⌝ }
-{
-    report_plain(
-        answer.number,
-        Values::One(small(answer.size as u64)),
-        report,
-    )
-}
-
-pub fn report_read(number: u8, report: &mut [u8; 36]) -> u8
-    ensures { λ r. ⌜ (r ≡ number) × (now (report .exit) ≡ readReport number) ⌝ }
-{
-    report_plain(number, Values::Nothing, report)
 }

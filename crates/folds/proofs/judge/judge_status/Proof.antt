@@ -6,7 +6,7 @@ use lib.ListN.{length}
 use denote.Ref.{now}
 use Rattle.laws.specs.Words.{sameList}
 use Rattle.registry_credential.specs.Status.{statusOf}
-use Rattle.host_report.proofs.ReportWrites.{length-status}
+use Rattle.host_status.proofs.StatusWrites.{length-status}
 use Rattle.folds.specs.Judgement.{judgeStatus}
 use borrow.Author.Needs.{needs}
 use Rattle.folds.proofs.judge.judge_status.Statement.{statement}

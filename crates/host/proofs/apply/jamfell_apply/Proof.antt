@@ -56,8 +56,8 @@ use Rattle.ledger_table.proofs.Spelled.{Parts, viewed}
 use Rattle.ledger_table.proofs.ApplyLedger.{next, applied-answer, applied-view, applied-kept}
 use Rattle.host_report.specs.Reports.{answerReport}
 use Rattle.ledger_table.proofs.table.Ledger as K
-use Rattle.host.proofs.LentLedger.{word, Count-g, Count-w, ref-gs, val-gs, Own-gs, ref-ws, val-ws, Own-ws, Kept}
-use Rattle.host.proofs.LentCalls.{Call, bytes-36, stayed, gs, m, ws, n, κs, qs, ref-bytes, val-bytes, Own-bytes, ref-36, Own-report, x, at, called, gone, Shut, Open, Left, has-left, lends-on, closes-at, Blocks, En, answer, number, Unanswered, Answered, begins, leaves}
+use Rattle.host_laws.proofs.LentLedger.{word, Count-g, Count-w, ref-gs, val-gs, Own-gs, ref-ws, val-ws, Own-ws, Kept}
+use Rattle.host_laws.proofs.LentCalls.{Call, bytes-36, stayed, gs, m, ws, n, κs, qs, ref-bytes, val-bytes, Own-bytes, ref-36, Own-report, x, at, called, gone, Shut, Open, Left, has-left, lends-on, closes-at, Blocks, En, answer, number, Unanswered, Answered, begins, leaves}
 use Rattle.ledger_apply.proofs.apply.apply as apply
 use Rattle.ledger_apply.proofs.apply.apply.Symbol as apply-def
 use Rattle.ledger_apply.proofs.apply.apply.Symbol.{name as #apply}

@@ -53,24 +53,24 @@ use Rattle.ledger_table.specs.Tables.{viewLedger}
 use Rattle.ledger_table.specs.declared.table.Ledger.{Ledger}
 use Rattle.ledger_table.proofs.table.Ledger as K
 use Rattle.ledger_table.proofs.Spelled.{Parts, length-g, length-w, viewed}
-use Rattle.host_report.specs.Reports.{lookedUpReport}
-use Rattle.host.specs.Shown.{keyIn, viewKey, lookUpReport}
-use Rattle.host.specs.declared.look.Key.{Key}
-use Rattle.host.proofs.look.Key as Y
-use Rattle.host.proofs.look.Key.Laws as Y′
-use Rattle.host.proofs.ShownLedger.{aref-g, slice-g, aref-w, slice-w, Rep, at-rows, Cell, Own-gs, Own-ws, opens, lends, shuts, registries-at, rows-at, registry-count, row-count}
+use Rattle.host_ledger.specs.LedgerCalls.{keyIn, viewKey, lookedUpReport, lookUpReport}
+use Rattle.host_ledger.proofs.ReportedAnswers.{looked-up-told}
+use Rattle.host_ledger.specs.declared.key.Key.{Key}
+use Rattle.host_ledger.proofs.key.Key as Y
+use Rattle.host_ledger.proofs.key.Key.Laws as Y′
+use Rattle.host_laws.proofs.ShownLedger.{aref-g, slice-g, aref-w, slice-w, Rep, at-rows, Cell, Own-gs, Own-ws, opens, lends, shuts, registries-at, rows-at, registry-count, row-count}
 use Rattle.ledger_lookup.proofs.lookup.look_up as seek
 use Rattle.ledger_lookup.proofs.lookup.look_up.Symbol as look-def
 use Rattle.ledger_lookup.proofs.lookup.look_up.Symbol.{name as #look}
 use Rattle.ledger_lookup.proofs.lookup.look_up.Met as look-thm
-use Rattle.host_report.proofs.report.report_looked_up as report
-use Rattle.host_report.proofs.report.report_looked_up.Symbol as report-def
-use Rattle.host_report.proofs.report.report_looked_up.Symbol.{name as #report}
-use Rattle.host_report.proofs.report.report_looked_up.Met as report-thm
-use Rattle.host.proofs.look.key_in as key
-use Rattle.host.proofs.look.key_in.Symbol as key-def
-use Rattle.host.proofs.look.key_in.Symbol.{name as #key}
-use Rattle.host.proofs.look.key_in.Met as key-thm
+use Rattle.host_ledger.proofs.report.report_looked_up as report
+use Rattle.host_ledger.proofs.report.report_looked_up.Symbol as report-def
+use Rattle.host_ledger.proofs.report.report_looked_up.Symbol.{name as #report}
+use Rattle.host_ledger.proofs.report.report_looked_up.Met as report-thm
+use Rattle.host_ledger.proofs.key.key_in as key
+use Rattle.host_ledger.proofs.key.key_in.Symbol as key-def
+use Rattle.host_ledger.proofs.key.key_in.Symbol.{name as #key}
+use Rattle.host_ledger.proofs.key.key_in.Met as key-thm
 use Rattle.host.proofs.look.jamfell_look_up.Key.{name as #me}
 use Rattle.host.proofs.look.jamfell_look_up as me
 use Rattle.host.proofs.look.jamfell_look_up.Statement as stated
@@ -170,8 +170,7 @@ module _ {M : Type 1} (𝓤 : URA M) (H : Heap 𝓤) (A : Atoms 𝓤) (W : Given
   -- what the three calls say
   told : (k : Key) (a : Answered) (r : ℕ) (rep′ : List ℕ) → viewKey k ≡ keyIn reg cred → viewLookedUp a ≡ lookUp (lentLedger gs m ws n) (viewKey k) → (r ≡ a .refusal) × (rep′ ≡ lookedUpReport a) → (r ≡ wanted .refusal) × (rep′ ≡ lookUpReport wanted)
   told k a r rep′ e-key e-look e-rep =
-      let e : viewLookedUp a ≡ wanted = e-look ∙ ap (λ z. lookUp z (viewKey k)) (viewed ledger) ∙ ap (lookUp (viewLedger ledger)) e-key in
-      (e-rep .0 ∙ ap (λ (z : LookedUp). z .refusal) e, e-rep .1 ∙ ap lookUpReport e)
+      looked-up-told a wanted r rep′ (e-look ∙ ap (λ z. lookUp z (viewKey k)) (viewed ledger) ∙ ap (lookUp (viewLedger ledger)) e-key) e-rep
 
   -- ---- the call of `key_in`
   abbrev arg-key : RefT (List ℕ) × (RefT (List ℕ) × Unit {0})
@@ -405,6 +404,6 @@ jamfell-look-up-spec 𝓤 H 𝓜 𝓖 𝓡 =
     entered 𝓤 H (tripleOf 𝓤 H (𝓖 .A) me.signature (me.spec 𝓤 H (𝓖 .A) (𝓜 .mem) (𝓡 .run)))
     (tables 𝓤 H 𝓜 𝓡 code.env .C) (tables 𝓤 H 𝓜 𝓡 code.env .Λ) #me code.function (code.unfolded 𝓤 H 𝓜 𝓡)
     (me-meets 𝓤 H (𝓖 .A) (givenOf 𝓤 H 𝓜 𝓖) (𝓜 .mem) (𝓡 .run) (tablesOf 𝓤 H 𝓜 (tables 𝓤 H 𝓜 𝓡 code.env))
-    (cited 𝓤 H (KeyIn 𝓤 H (𝓖 .A) (𝓜 .mem) (𝓡 .run)) 𝓜 𝓡 code.env #key key-def.routine code.calls-host·look·key-in (key-thm.met 𝓤 H 𝓜 𝓖 𝓡))
+    (cited 𝓤 H (KeyIn 𝓤 H (𝓖 .A) (𝓜 .mem) (𝓡 .run)) 𝓜 𝓡 code.env #key key-def.routine code.calls-host-ledger·key·key-in (key-thm.met 𝓤 H 𝓜 𝓖 𝓡))
     (cited 𝓤 H (LookUp 𝓤 H (𝓖 .A) (𝓜 .mem) (𝓡 .run)) 𝓜 𝓡 code.env #look look-def.routine code.calls-ledger-lookup·lookup·look-up (look-thm.met 𝓤 H 𝓜 𝓖 𝓡))
-    (cited 𝓤 H (Report 𝓤 H (𝓖 .A) (𝓜 .mem) (𝓡 .run)) 𝓜 𝓡 code.env #report report-def.routine code.calls-host-report·report·report-looked-up (report-thm.met 𝓤 H 𝓜 𝓖 𝓡)))
+    (cited 𝓤 H (Report 𝓤 H (𝓖 .A) (𝓜 .mem) (𝓡 .run)) 𝓜 𝓡 code.env #report report-def.routine code.calls-host-ledger·report·report-looked-up (report-thm.met 𝓤 H 𝓜 𝓖 𝓡)))

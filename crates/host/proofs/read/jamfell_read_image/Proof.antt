@@ -47,18 +47,18 @@ use Rattle.ledger_read.proofs.read.ImageRead.Laws as I′
 use Rattle.ledger_read.proofs.ReadBack.{ReadInto}
 use Rattle.ledger_table.proofs.Spelled.{Parts, length-g, length-w}
 use Rattle.ledger_table.proofs.ReadLedger.{next, answer-is, read-view, read-kept}
-use Rattle.host_report.specs.Reports.{readReport}
+use Rattle.host_ledger.specs.LedgerCalls.{readReport}
 use Rattle.ledger_table.proofs.table.Ledger as K
-use Rattle.host.proofs.LentLedger.{word, Count-g, Count-w, ref-gs, val-gs, Own-gs, ref-ws, val-ws, Own-ws, Kept}
-use Rattle.host.proofs.LentCalls.{Call, bytes-36, stayed, gs, m, ws, n, κs, qs, ref-bytes, val-bytes, Own-bytes, ref-36, Own-report, x, at, called, gone, Shut, Open, Left, has-left, lends-on, closes-at, Blocks, En, answer, number, Unanswered, Answered, begins, leaves}
+use Rattle.host_laws.proofs.LentLedger.{word, Count-g, Count-w, ref-gs, val-gs, Own-gs, ref-ws, val-ws, Own-ws, Kept}
+use Rattle.host_laws.proofs.LentCalls.{Call, bytes-36, stayed, gs, m, ws, n, κs, qs, ref-bytes, val-bytes, Own-bytes, ref-36, Own-report, x, at, called, gone, Shut, Open, Left, has-left, lends-on, closes-at, Blocks, En, answer, number, Unanswered, Answered, begins, leaves}
 use Rattle.ledger_read.proofs.read.read_image as read
 use Rattle.ledger_read.proofs.read.read_image.Symbol as read-def
 use Rattle.ledger_read.proofs.read.read_image.Symbol.{name as #read}
 use Rattle.ledger_read.proofs.read.read_image.Met as read-thm
-use Rattle.host_report.proofs.report.report_read as report
-use Rattle.host_report.proofs.report.report_read.Symbol as report-def
-use Rattle.host_report.proofs.report.report_read.Symbol.{name as #report}
-use Rattle.host_report.proofs.report.report_read.Met as report-thm
+use Rattle.host_ledger.proofs.report.report_read as report
+use Rattle.host_ledger.proofs.report.report_read.Symbol as report-def
+use Rattle.host_ledger.proofs.report.report_read.Symbol.{name as #report}
+use Rattle.host_ledger.proofs.report.report_read.Met as report-thm
 use Rattle.host.proofs.read.jamfell_read_image.Key.{name as #me}
 use Rattle.host.proofs.read.jamfell_read_image as me
 use Rattle.host.proofs.read.jamfell_read_image.Statement as stated
@@ -201,4 +201,4 @@ jamfell-read-image-spec 𝓤 H 𝓜 𝓖 𝓡 =
     (tables 𝓤 H 𝓜 𝓡 code.env .C) (tables 𝓤 H 𝓜 𝓡 code.env .Λ) #me code.function (code.unfolded 𝓤 H 𝓜 𝓡)
     (me-meets 𝓤 H (𝓖 .A) (givenOf 𝓤 H 𝓜 𝓖) (𝓜 .mem) (𝓡 .run) (tablesOf 𝓤 H 𝓜 (tables 𝓤 H 𝓜 𝓡 code.env))
     (cited 𝓤 H (Read 𝓤 H (𝓖 .A) (𝓜 .mem) (𝓡 .run)) 𝓜 𝓡 code.env #read read-def.routine code.calls-ledger-read·read·read-image (read-thm.met 𝓤 H 𝓜 𝓖 𝓡))
-    (cited 𝓤 H (Report 𝓤 H (𝓖 .A) (𝓜 .mem) (𝓡 .run)) 𝓜 𝓡 code.env #report report-def.routine code.calls-host-report·report·report-read (report-thm.met 𝓤 H 𝓜 𝓖 𝓡)))
+    (cited 𝓤 H (Report 𝓤 H (𝓖 .A) (𝓜 .mem) (𝓡 .run)) 𝓜 𝓡 code.env #report report-def.routine code.calls-host-ledger·report·report-read (report-thm.met 𝓤 H 𝓜 𝓖 𝓡)))

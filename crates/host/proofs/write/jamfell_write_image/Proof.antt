@@ -51,17 +51,17 @@ use Rattle.ledger_table.specs.Tables.{viewLedger}
 use Rattle.ledger_table.specs.declared.table.Ledger.{Ledger}
 use Rattle.ledger_table.proofs.table.Ledger as K
 use Rattle.ledger_table.proofs.Spelled.{Parts, length-g, length-w, viewed}
-use Rattle.host_report.specs.Reports.{writtenReport}
-use Rattle.host.specs.Shown.{imageReport}
-use Rattle.host.proofs.ShownLedger.{aref-g, slice-g, aref-w, slice-w, Rep, at-rows, Cell, Own-gs, Own-ws, opens, lends, shuts, registries-at, rows-at, registry-count, row-count}
+use Rattle.host_ledger.specs.LedgerCalls.{writtenReport, imageReport}
+use Rattle.host_ledger.proofs.ReportedAnswers.{written-told}
+use Rattle.host_laws.proofs.ShownLedger.{aref-g, slice-g, aref-w, slice-w, Rep, at-rows, Cell, Own-gs, Own-ws, opens, lends, shuts, registries-at, rows-at, registry-count, row-count}
 use Rattle.ledger_write.proofs.write.write_image as put
 use Rattle.ledger_write.proofs.write.write_image.Symbol as put-def
 use Rattle.ledger_write.proofs.write.write_image.Symbol.{name as #put}
 use Rattle.ledger_write.proofs.write.write_image.Met as put-thm
-use Rattle.host_report.proofs.report.report_written as report
-use Rattle.host_report.proofs.report.report_written.Symbol as report-def
-use Rattle.host_report.proofs.report.report_written.Symbol.{name as #report}
-use Rattle.host_report.proofs.report.report_written.Met as report-thm
+use Rattle.host_ledger.proofs.report.report_written as report
+use Rattle.host_ledger.proofs.report.report_written.Symbol as report-def
+use Rattle.host_ledger.proofs.report.report_written.Symbol.{name as #report}
+use Rattle.host_ledger.proofs.report.report_written.Met as report-thm
 use Rattle.host.proofs.write.jamfell_write_image.Key.{name as #me}
 use Rattle.host.proofs.write.jamfell_write_image as me
 use Rattle.host.proofs.write.jamfell_write_image.Statement as stated
@@ -148,8 +148,7 @@ module _ {M : Type 1} (𝓤 : URA M) (H : Heap 𝓤) (A : Atoms 𝓤) (W : Given
   -- what the two calls say
   told : (a : Answered) (r : ℕ) (out′ rep′ : List ℕ) → viewWritten a out′ ≡ writtenOf (lentLedger gs m ws n) out → (r ≡ a .number) × (rep′ ≡ writtenReport a) → (r ≡ wanted .number) × (rep′ ≡ imageReport wanted) × (out′ ≡ wanted .bytes)
   told a r out′ rep′ e-wrote e-rep =
-      let e : viewWritten a out′ ≡ wanted = e-wrote ∙ ap (λ z. writtenOf z out) (viewed ledger) in
-      (e-rep .0 ∙ ap (λ (z : Written). z .number) e, e-rep .1 ∙ ap imageReport e, ap (λ (z : Written). z .bytes) e)
+      written-told a wanted r out′ rep′ (e-wrote ∙ ap (λ z. writtenOf z out) (viewed ledger)) e-rep
 
   -- ---- the call of `write_image`, where the arrays are lent for the lifetime ν under the names δ and ε
   module _ (has : Parts ledger) (ν : ℕ) (δ ε : GName) where
@@ -368,4 +367,4 @@ jamfell-write-image-spec 𝓤 H 𝓜 𝓖 𝓡 =
     (tables 𝓤 H 𝓜 𝓡 code.env .C) (tables 𝓤 H 𝓜 𝓡 code.env .Λ) #me code.function (code.unfolded 𝓤 H 𝓜 𝓡)
     (me-meets 𝓤 H (𝓖 .A) (givenOf 𝓤 H 𝓜 𝓖) (𝓜 .mem) (𝓡 .run) (tablesOf 𝓤 H 𝓜 (tables 𝓤 H 𝓜 𝓡 code.env))
     (cited 𝓤 H (Write 𝓤 H (𝓖 .A) (𝓜 .mem) (𝓡 .run)) 𝓜 𝓡 code.env #put put-def.routine code.calls-ledger-write·write·write-image (put-thm.met 𝓤 H 𝓜 𝓖 𝓡))
-    (cited 𝓤 H (Report 𝓤 H (𝓖 .A) (𝓜 .mem) (𝓡 .run)) 𝓜 𝓡 code.env #report report-def.routine code.calls-host-report·report·report-written (report-thm.met 𝓤 H 𝓜 𝓖 𝓡)))
+    (cited 𝓤 H (Report 𝓤 H (𝓖 .A) (𝓜 .mem) (𝓡 .run)) 𝓜 𝓡 code.env #report report-def.routine code.calls-host-ledger·report·report-written (report-thm.met 𝓤 H 𝓜 𝓖 𝓡)))

@@ -1,6 +1,6 @@
 use mathlib.Core.Path.{refl, _∙_}
 use denote.Ref.{now}
-use Rattle.host_report.specs.Reports.{valuesOf}
+use Rattle.host_values.specs.ReportValues.{valuesOf}
 use Rattle.host_report.proofs.ReportWrites.{report-put}
 use borrow.Author.Needs.{needs}
 use Rattle.host_report.proofs.report.write_report.Statement.{statement}

@@ -1,0 +1,2 @@
+pub mod CredentialsIn
+pub mod CredentialFolds

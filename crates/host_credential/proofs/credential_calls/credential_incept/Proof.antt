@@ -1,0 +1,67 @@
+use mathlib.Core.Path.{ap, _∙_}
+use borrow.Author.Tests.{not-true, not-false}
+use denote.Ref.{now}
+use Rattle.host_next.specs.ByteFolds.{Folded, callOf}
+use Rattle.host_next.proofs.StatesIn.{registry-none, registry-some}
+use Rattle.host_next.proofs.Calls.{no-state}
+use Rattle.host_credential.specs.CredentialByteFolds.{credentialIncept}
+use Rattle.host_credential.proofs.CredentialFolds.{issue}
+use borrow.Author.Needs.{needs}
+use Rattle.host_credential.proofs.credential_calls.credential_incept.Statement.{statement}
+use Rattle.host_credential.proofs.credential_calls.credential_incept.Tie as tie
+
+start-requires : tie.Need-start-requires
+start-requires c κs = search needs
+
+read-registry-requires : tie.Need-read-registry-requires
+read-registry-requires c κs = search needs
+
+is-whole-requires : tie.Need-is-whole-requires
+is-whole-requires c κs = search needs
+
+malformed-requires : tie.Need-malformed-requires
+malformed-requires c κs = search needs
+
+returns : tie.Need-returns
+unfolding credentialIncept
+returns c =
+    let b2 = c .before .before in
+    let b3 = b2 .before in
+    let b4 = b3 .before in
+    let a = b4 .before .before .before .before .before .args in
+    let e = registry-none (now (a .registry)) _ _ (b4 .before .start .ensures) (b4 .read-registry .result) (b4 .read-registry .ensures .0) (b3 .is-whole .ensures) (not-true _ (b2 .if1 .taken)) in
+    no-state (credentialIncept (now (a .registry)) (now (a .attempt))) _ _ _ (rw e) (c .malformed .ensures)
+
+incept-requires : tie.Need-incept-requires
+incept-requires c κs = search needs
+
+leave-credential-requires : tie.Need-leave-credential-requires
+leave-credential-requires c κs = search needs
+
+same-length : tie.Need-same-length
+same-length c = search needs
+
+returns-2 : tie.Need-returns-2
+returns-2 c =
+    let b2 = c .before .before in
+    let b5 = b2 .before .before .before in
+    let b6 = b5 .before in
+    let b7 = b6 .before in
+    let b8 = b7 .before in
+    let a = b8 .before .before .before .before .before .args in
+    let g = registry-some (now (a .registry)) _ _ (b8 .before .start .ensures) (b8 .read-registry .result) (b8 .read-registry .ensures .0) (b7 .is-whole .ensures) (not-false _ (b6 .if1 .left)) (b8 .read-registry .ensures .1) in
+    b2 .leave-credential .ensures ∙ ap (λ (f : Folded). callOf f (now (a .next))) (issue (now (a .registry)) (now (a .attempt)) (b8 .read-registry .result .value) g _ (b5 .incept .ensures))
+
+pub credential-incept-spec : {M : Type 1} → statement M
+credential-incept-spec =
+    tie.close
+    (tie.spec
+    start-requires
+    read-registry-requires
+    is-whole-requires
+    malformed-requires
+    returns
+    incept-requires
+    leave-credential-requires
+    same-length
+    returns-2)

@@ -1,0 +1,46 @@
+// An iss or bis, and a rev or brv, under the registry whose state is handed in. The next state's bytes go to the start of `next`.
+use codec_cursor::cursor::Cursor;
+use host_next::credential_next::leave_credential;
+use host_parts::part::is_whole;
+use host_parts::part::malformed;
+use ledger_image_check::registries::read_registry;
+use registry_credential_state::credential_state::ingest;
+use registry_issue::credential_state::incept;
+use registry_state::state::CredentialState;
+ghost use mathlib.Core.Path.{_≡_};
+ghost use Rattle.host_next.specs.ByteFolds.{called, callOf};
+ghost use Rattle.host_credential.specs.CredentialByteFolds.{credentialIncept, credentialIngest};
+
+// An iss or bis.
+pub fn credential_incept(
+    registry: &[u8],
+    attempt: &[u8],
+    next: &mut [u8],
+    report: &mut [u8; 36],
+) -> u8
+    ensures { λ r. ⌜ called r (now (report .exit)) (now (next .exit)) ≡ callOf (credentialIncept (now (registry .entry)) (now (attempt .entry))) (now (next .entry)) ⌝ }
+{
+    let g = read_registry(Cursor::start(), registry);
+    if !is_whole(g.next, registry) {
+        return malformed(report);
+    }
+    leave_credential(incept(g.value, attempt), next, report)
+}
+
+// A rev or brv.
+pub fn credential_ingest(
+    registry: &[u8],
+    credential: &[u8],
+    attempt: &[u8],
+    next: &mut [u8],
+    report: &mut [u8; 36],
+) -> u8
+    ensures { λ r. ⌜ called r (now (report .exit)) (now (next .exit)) ≡ callOf (credentialIngest (now (registry .entry)) (now (credential .entry)) (now (attempt .entry))) (now (next .entry)) ⌝ }
+{
+    let g = read_registry(Cursor::start(), registry);
+    let w = CredentialState::read(Cursor::start(), credential);
+    if !(is_whole(g.next, registry) & is_whole(w.next, credential)) {
+        return malformed(report);
+    }
+    leave_credential(ingest(g.value, w.value, attempt), next, report)
+}

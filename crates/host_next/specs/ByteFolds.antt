@@ -1,0 +1,59 @@
+-- What the folds over bytes share: a state in its bytes, and what a call answers and leaves in `next` (docs/RULES.md, "Host's calls").
+use Prim.Native.Nat.{ℕ}
+use mathlib.Core.Bool.{cond, _&&_}
+use mathlib.Core.List.{List, []}
+use mathlib.Core.Option.{Option, none, some}
+use lib.Dec.{eqb, leb}
+use lib.ListN.{length}
+use lib.Seq.{sets}
+use Rattle.codec_cursor.specs.Readers.{Read, starting}
+use Rattle.registry_state.specs.States.{Registry, registryBytes, credentialBytes, readRegistry}
+use Rattle.registry_error.specs.declared.error.RegistryRejection.the-variants.{Malformed, ShortBuffer}
+use Rattle.registry_error.specs.declared.error.Answer.{Answer}
+use Rattle.registry_error.specs.declared.error.Answer.the-variants.{Rejected}
+use Rattle.registry_error.specs.Errors.{answerNumber}
+use Rattle.registry_answer.specs.Answers.{accepts, acceptIf, orElse}
+use Rattle.registry_inception.specs.InceptionFolds as N
+use Rattle.registry_issue.specs.IssueFolds as I
+use Rattle.host_report.specs.Reports.{sizedReport}
+
+-- the state that bytes are, where they are one and nothing else
+abbrev pub wholeOf : {A : Type 0} → List ℕ → Read A → Option A
+wholeOf s r = cond (r .next .ok && eqb (r .next .at) (length s)) (some (r .value)) none
+
+unfoldable pub registryIn : List ℕ → Option Registry
+registryIn s = wholeOf s (readRegistry s starting)
+
+-- a fold's answer, and the bytes of the state behind it
+pub record Folded : Type 0 where
+  pub answer : Answer
+  pub bytes : List ℕ
+
+abbrev pub registryFolded : N.Outcome → Folded
+registryFolded o = record { answer = o .answer; bytes = registryBytes (o .state) }
+
+abbrev pub credentialFolded : I.Outcome → Folded
+credentialFolded o = record { answer = o .answer; bytes = credentialBytes (o .state) }
+
+-- 1 before everything: bytes that are handed in as a state and are none
+abbrev pub noState : Folded
+noState = record { answer = Rejected Malformed; bytes = [] }
+
+-- the answer of a call: the fold's, then 30, where `next` is shorter than the state's bytes
+unfoldable pub answerIn : Folded → List ℕ → Answer
+answerIn f next = orElse (f .answer) (acceptIf (leb (length (f .bytes)) (length next)) ShortBuffer)
+
+-- what comes out of a call: its number, its report, and `next`
+pub record Called : Type 0 where
+  pub number : ℕ
+  pub report : List ℕ
+  pub next : List ℕ
+
+abbrev pub called : ℕ → List ℕ → List ℕ → Called
+called number report next = record { number = number; report = report; next = next }
+
+-- acceptance stores the state's bytes from the start of `next` on; a refusal leaves it as it was
+unfoldable pub callOf : Folded → List ℕ → Called
+callOf f next =
+    let a = answerIn f next in
+    record { number = answerNumber a; report = sizedReport a (length (f .bytes)); next = cond (accepts a) (sets next 0 (f .bytes)) next }

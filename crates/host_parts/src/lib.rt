@@ -1,0 +1,2 @@
+// What the folds over bytes share (docs/RULES.md, "Host's calls").
+pub mod part;

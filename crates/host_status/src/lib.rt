@@ -1,0 +1,2 @@
+// `status`, with its report (docs/RULES.md, "Host's calls").
+pub mod status_calls;

@@ -1,0 +1,12 @@
+-- The values of a report (docs/RULES.md, "Host's calls").
+use Prim.Native.Nat.{ℕ}
+use mathlib.Core.List.{List, [], _∷_}
+use Rattle.cesr.specs.Numbers.{value}
+use Rattle.host_values.specs.declared.values.Values.{Values}
+use Rattle.host_values.specs.declared.values.Values.the-variants.{Nothing, One, Two}
+
+-- what the code's values stand for
+abbrev pub valuesOf : Values → List ℕ
+valuesOf Nothing = []
+valuesOf (One a) = value a ∷ []
+valuesOf (Two a b) = value a ∷ value b ∷ []

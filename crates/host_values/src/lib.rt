@@ -1,0 +1,2 @@
+// The values of a report: evidence kinds awaited, and details (docs/RULES.md, "Refusals").
+pub mod values;
