@@ -22,7 +22,7 @@ use Rattle.registry_state.specs.declared.state.CredentialState.{CredentialState
 use Rattle.registry_state.specs.declared.state.RegistryRead.{RegistryRead}
 use Rattle.registry_state.specs.declared.state.CredentialRead.{CredentialRead}
 use Rattle.registry_state.proofs.CodesState.{codes-registry, codes-credential}
-use Rattle.ledger_image_check.proofs.RowChecks.{row-read}
+use Rattle.ledger_image_rows_check.proofs.RowChecks.{row-read}
 use Rattle.host_folds.specs.ByteFolds.{wholeOf, registryIn, credentialIn}
 
 -- a state that was found is the one that was read
