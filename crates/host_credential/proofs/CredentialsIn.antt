@@ -17,7 +17,7 @@ use Rattle.registry_state.specs.States.{credentialBytes, goodCredential, readCr
 use Rattle.registry_state.specs.declared.state.CredentialState.{CredentialState}
 use Rattle.registry_state.specs.declared.state.CredentialRead.{CredentialRead}
 use Rattle.registry_state.proofs.CodesState.{codes-credential}
-use Rattle.ledger_image_check.proofs.RowChecks.{row-read}
+use Rattle.ledger_image_rows_check.proofs.RowChecks.{row-read}
 use Rattle.host_next.proofs.StatesIn.{whole-is}
 use Rattle.host_credential.specs.CredentialByteFolds.{credentialIn}
 

@@ -1,9 +1,5 @@
-pub mod OneMore
 pub mod Counts
 pub mod Sticky
-pub mod IdViews
 pub mod RegistryChecks
-pub mod RowChecks
-pub mod MarkLaws
 pub mod CheckLaws
 pub mod Reread

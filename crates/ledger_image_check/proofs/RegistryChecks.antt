@@ -35,7 +35,7 @@ use Rattle.ledger_step.proofs.TableLaws.{all-weaker}
 use Rattle.ledger_image.specs.Images.{wideCount, wideSection, readRegistries}
 use Rattle.ledger_image_check.specs.Checks.{idIn, registriesPass, sectionPasses}
 use Rattle.ledger_image_check.proofs.Sticky.{registry-sticky}
-use Rattle.ledger_image_check.proofs.OneMore.{distinct-snoc}
+use Rattle.ledger_image_ids.proofs.OneMore.{distinct-snoc}
 
 -- the rules that registries keep, together
 abbrev pub apartAndSound : List Registry → Bool

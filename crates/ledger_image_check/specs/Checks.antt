@@ -1,22 +1,18 @@
 -- What the check of an image answers, and the tests that it makes on the way (docs/RULES.md, "Image", "Reading rules").
-use Prim.Native.Nat.{ℕ, zero, suc, _+_, _*_}
+use Prim.Native.Nat.{ℕ, zero, suc, _+_}
 use mathlib.Core.Bool.{Bool, true, false, not, _&&_}
-use mathlib.Core.List.{List, [], _∷_, _++_, map}
-use lib.ListN.{length, getD, take}
-use Rattle.cesr.specs.Numbers.{value}
-use Rattle.cesr.specs.Primitives.{eqSaid, readMatter}
+use mathlib.Core.List.{List, map}
+use lib.ListN.{length}
+use Rattle.cesr.specs.Primitives.{eqSaid}
 use Rattle.cesr.specs.declared.primitive.Said.{Said}
 use Rattle.codec_cursor.specs.declared.cursor.Cursor.{Cursor}
-use Rattle.codec_cursor.specs.Readers.{starting, placed, saidOf, times}
-use Rattle.registry_state.specs.States.{Registry, readRegistry, readCredential, noSaid}
-use Rattle.registry_laws.specs.Pairs.{Pair, keyOf}
+use Rattle.codec_cursor.specs.Readers.{starting, times}
+use Rattle.registry_state.specs.States.{Registry, readRegistry}
 use Rattle.registry_laws.specs.ReadingRules.{soundRegistry}
 use Rattle.ledger_step.specs.Tables.{has}
-use Rattle.ledger_step.specs.Ledgers.{eqPair, hasRegistry, zeroOrOne}
 use Rattle.ledger_image.specs.Images.{ImageAnswer, wideCount, readRegistries, imageOf}
 use Rattle.ledger_image.specs.Images.ImageAnswer.{refused, held}
 use Rattle.ledger_image_check.specs.declared.image.Checked.{Checked}
-use Rattle.ledger_image_check.specs.declared.ids.Ids.{Ids}
 
 -- what a check answers: whether the image is a ledger's, its counts, and the byte at which the first row stands
 pub record ImageCheck : Type 0 where
@@ -37,13 +33,6 @@ checkedOf s = checkedBy (readRegistries s starting .next .at + 2) (imageOf s)
 abbrev pub viewChecked : Checked → ImageCheck
 viewChecked r = record { ok = r .ok; registries = r .registries; rowsAt = r .«rows_at»; rows = r .rows }
 
--- ids, as a list: the array's elements before the count
-unfoldable pub viewIds : Ids → List Said
-viewIds m = take (m .count) (m .items)
-
-abbrev pub idAt : List Said → ℕ → Said
-idAt l i = getD l i noSaid
-
 abbrev pub idIn : Registry → Said
 idIn g = g .id
 
@@ -58,21 +47,3 @@ registriesPass s c (suc n) =
 -- each of the registries that the first count counts
 unfoldable pub sectionPasses : List ℕ → Bool
 sectionPasses s = let n = wideCount 16 s starting in registriesPass s (n .next) (n .value)
-
--- the key of a row that stands at a place, and those of n rows from a place on
-unfoldable pub keyAt : List ℕ → ℕ → Pair
-keyAt s at = record { registry = saidOf (readMatter s at); credential = saidOf (readMatter s (at + 33)) }
-
-unfoldable pub keysFrom : List ℕ → ℕ → ℕ → List Pair
-keysFrom s at zero = []
-keysFrom s at (suc n) = keysFrom s at n ++ (keyAt s (at + 115 * n) ∷ [])
-
--- the row behind n others is read, its registry is among the ids, its sn is 0 or 1, and its key is that of none before it
-unfoldable pub rowPasses : List ℕ → ℕ → List Said → ℕ → Bool
-rowPasses s at ids n =
-    let w = readCredential s (placed (at + 115 * n)) in
-    w .next .ok && (hasRegistry ids (w .value) && (zeroOrOne (w .value) && not (has eqPair (keyOf (w .value)) (keysFrom s at n))))
-
-unfoldable pub rowsPass : List ℕ → ℕ → List Said → ℕ → Bool
-rowsPass s at ids zero = true
-rowsPass s at ids (suc n) = rowsPass s at ids n && rowPasses s at ids n

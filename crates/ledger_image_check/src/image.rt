@@ -1,10 +1,8 @@
 // The check of an image. It stores nothing: what it answers is enough to read the states of an image that passes where they stand.
 use crate::registries::check_registries;
-use crate::rows::check_rows;
 use ledger_image::image::read_count;
+use ledger_image_rows_check::rows::check_rows;
 ghost use mathlib.Core.Path.{_≡_};
-ghost use Prim.Native.Nat.{_+_, _*_, _≤_};
-ghost use lib.Dec.{eqb};
 ghost use Rattle.ledger_image_check.specs.Checks.{viewChecked, checkedOf};
 
 // Whether the image is one of a ledger, how many registries and rows it has, and the byte at which its first row stands. The registries stand from byte 2 on. Of an image that is refused the three numbers are 0.
@@ -15,17 +13,6 @@ pub struct Checked {
     pub rows: usize,
 }
 
-// Whether n rows from a place on end where the bytes end.
-fn ends_there(len: usize, at: usize, n: usize) -> bool
-    requires { ⌜ n ≤ 256 ⌝ }
-    ensures { λ r. ⌜ r ≡ eqb (at + 115 * n) len ⌝ }
-{
-    if len < at {
-        return false;
-    }
-    115 * n == len - at
-}
-
 pub fn check_image(image: &[u8]) -> Checked
     ensures { λ r. ⌜ viewChecked r ≡ checkedOf (now (image .entry)) ⌝ }
 {
@@ -33,8 +20,7 @@ pub fn check_image(image: &[u8]) -> Checked
     let section = read_count(registries.next, image, 256);
     let rows_at = section.next.at;
     let rows = section.value;
-    let whole = ends_there(image.len(), rows_at, rows);
-    if section.next.ok & (registries.ok & whole) {
+    if section.next.ok & registries.ok {
         if check_rows(image, rows_at, rows, registries.ids) {
             return Checked {
                 ok: true,

@@ -1,7 +1,7 @@
 // The registries of an image: each is read, and held to the reading rules that speak of registries alone.
-use crate::ids::Ids;
 use codec_cursor::cursor::Cursor;
 use ledger_image::image::read_count;
+use ledger_image_ids::ids::Ids;
 use ledger_registries_check::check::registry_sound;
 use registry_state::state::RegistryRead;
 use registry_state::state::RegistryState;
@@ -11,7 +11,8 @@ ghost use mathlib.Core.List.{map};
 ghost use Rattle.codec_cursor.specs.Readers.{starting};
 ghost use Rattle.registry_state.specs.States.{readRegistry, viewRegistryRead, wellRegistry};
 ghost use Rattle.ledger_image.specs.Images.{readRegistries};
-ghost use Rattle.ledger_image_check.specs.Checks.{viewIds, idIn, sectionPasses};
+ghost use Rattle.ledger_image_ids.specs.IdLists.{viewIds};
+ghost use Rattle.ledger_image_check.specs.Checks.{idIn, sectionPasses};
 
 // The registries' section as it was read: whether every registry passes, the ids, and the cursor behind the section.
 pub struct SectionRead {

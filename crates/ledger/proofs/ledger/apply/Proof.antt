@@ -51,11 +51,13 @@ use Rattle.registry_state.proofs.state.CredentialState.Laws as T′
 use Rattle.ledger_table.specs.declared.table.Ledger.{Ledger}
 use Rattle.ledger_table.proofs.table.Ledger as K
 use Rattle.ledger_table.proofs.table.Ledger.Laws as K′
+use Rattle.ledger.proofs.HeldFields.{word, arr-g, arr-w, fields}
 use Rattle.ledger_table.proofs.ArrayLoans.{lends, backs}
 use Rattle.ledger_table.proofs.Spelled.{low-g, low-w, spelled, tells, IsG, IsW, Parts, parts, whole as ledger-is, length-g, length-w, room-g, room-w}
 use Rattle.ledger_step.specs.Ledgers.{lentLedger}
 use Rattle.ledger_step.specs.Steps.{requestOf, effect, stepOf}
 use Rattle.ledger_apply.specs.Applies.{lent as slices, Stores}
+use Rattle.registry_error.proofs.error.Answer.Laws as E′
 use Rattle.ledger_apply.specs.declared.apply.Applied.{Applied}
 use Rattle.ledger_apply.proofs.apply.Applied as B
 use Rattle.ledger_apply.proofs.apply.Applied.Laws as B′
@@ -78,17 +80,11 @@ abbrev stayed : Stays (me.ended .signature .params) (me.ended .kept)
 stayed = (stay-none (λ _. K.the-row) yes, (stay-dropped (shrSliceOf (0 ∷ []) tt (plain (λ _. u8))) yes, tt))
 
 -- ---- the types of the locals
-abbrev arr-g : Ty
-arr-g = tyArray G′.mir 16
-
 abbrev aref-g : Ty
 aref-g = tyRef erased mut (tyArray (pointee (G.the-row .written)) 16)
 
 abbrev slice-g : Ty
 slice-g = sliceTy (tyRef erased mut (pointee (G.the-row .written)))
-
-abbrev arr-w : Ty
-arr-w = tyArray T′.mir 256
 
 abbrev aref-w : Ty
 aref-w = tyRef erased mut (tyArray (pointee (T.the-row .written)) 256)
@@ -198,8 +194,8 @@ module _ {M : Type 1} (𝓤 : URA M) (H : Heap 𝓤) (A : Atoms 𝓤) (W : Given
       leaves r gs′ ws′ is-r e is-gs is-ws =
           assigns ! (of-opd ! (load ! (from ! (stop !)) (look ! 2 refl))) (from ! (stop !)) (init ! 5 refl (array-lawful 𝓤 H A W G.the-row (LL.lawful G.the-type G′.the-laws 𝓤 H A W) 16 .typed gs′ _ is-gs .0)) $
           assigns ! (of-opd ! (load ! (from ! (stop !)) (look ! 1 refl))) (from ! (stop !)) (init ! 3 refl (array-lawful 𝓤 H A W T.the-row (LL.lawful T.the-type T′.the-laws 𝓤 H A W) 256 .typed ws′ _ is-ws .0)) $
-          assigns ! (agg ! (and-then ! (load ! (from ! (stop !)) (look ! 5 refl)) (and-then ! (load ! (from ! (fld ! refl (stop !))) (look-in ! 17 (sub ! 1 refl (whole !)))) (and-then ! (load ! (from ! (stop !)) (look ! 3 refl)) (and-then ! (load ! (from ! (fld ! refl (stop !))) (look-in ! 17 (sub ! 2 refl (whole !)))) (no-more !)))))) (from ! (stop !)) (init ! 15 refl (LL.lawful K.the-type K′.the-laws 𝓤 H A W .typed (next r gs′ ws′) _ (ledger-is (next r gs′ ws′) (next-parts r gs′ ws′ is-r is-gs is-ws)) .0)) $
-          assigns ! (agg ! (and-then ! (load ! (from ! (fld ! refl (stop !))) (look-in ! 17 (sub ! 0 refl (whole !)))) (and-then ! (load ! (from ! (stop !)) (look ! 15 refl)) (no-more !)))) (from ! (stop !)) (init ! 25 refl (LL.lawful N.the-type N′.the-laws 𝓤 H A W .typed (result r gs′ ws′) _ (result-is r gs′ ws′ is-r is-gs is-ws) .0)) $
+          assigns ! (agg ! (and-then ! (load ! (from ! (stop !)) (look ! 5 refl)) (and-then ! (load ! (from ! (fld ! {τ = word} {d = 48} refl (stop !))) (look-in ! 17 (sub ! 1 {τ = word} {d = 48} refl (whole !)))) (and-then ! (load ! (from ! (stop !)) (look ! 3 refl)) (and-then ! (load ! (from ! (fld ! {τ = word} {d = 56} refl (stop !))) (look-in ! 17 (sub ! 2 {τ = word} {d = 56} refl (whole !)))) (no-more !)))))) (from ! (stop !)) (init ! 15 refl (LL.lawful K.the-type K′.the-laws 𝓤 H A W .typed (next r gs′ ws′) _ (ledger-is (next r gs′ ws′) (next-parts r gs′ ws′ is-r is-gs is-ws)) .0)) $
+          assigns ! (agg ! (and-then ! (load ! (from ! (fld ! {τ = E′.mir} {d = 0} refl (stop !))) (look-in ! 17 (sub ! 0 {τ = E′.mir} {d = 0} refl (whole !)))) (and-then ! (load ! (from ! (stop !)) (look ! 15 refl)) (no-more !)))) (from ! (stop !)) (init ! 25 refl (LL.lawful N.the-type N′.the-laws 𝓤 H A W .typed (result r gs′ ws′) _ (result-is r gs′ ws′ is-r is-gs is-ws) .0)) $
           returns ! (look ! 25 refl) $
           forget ! 3 refl $ forget ! 5 refl $ forget ! 7 refl $ forget ! 9 refl $ forget ! 11 refl $ forget ! 13 refl $ forget ! 15 refl $ forget ! 17 refl $ forget ! 1 refl $ forget ! 2 refl $ forget ! 21 refl $ forget ! 23 refl $ forget ! 25 refl $
           move ! (25 ∷ 26 ∷ []) $
@@ -288,7 +284,7 @@ module _ {M : Type 1} (𝓤 : URA M) (H : Heap 𝓤) (A : Atoms 𝓤) (W : Given
           move ! (3 ∷ 0 ∷ []) $
           join ! $
           use1 W (raw (Callee 𝓤 H A mem run .pre (to l₃ l₄ ν μ δ ε))) (goes l₃ l₄ ν μ δ ε) $
-          calls-at ! fm (Callee 𝓤 H A mem run) known (to l₃ l₄ ν μ δ ε) (and-then ! (load ! (from ! (stop !)) (look ! 11 refl)) (and-then ! (load ! (from ! (fld ! refl (stop !))) (look-in ! 23 (sub ! 1 refl (whole !)))) (and-then ! (load ! (from ! (stop !)) (look ! 7 refl)) (and-then ! (load ! (from ! (fld ! refl (stop !))) (look-in ! 23 (sub ! 3 refl (whole !)))) (and-then ! (load ! (from ! (stop !)) (look ! 21 refl)) (no-more !)))))) (λ u. use1 W (later (some (λ (r : Applied). ((‵ (flft (ν ∷ []) fullShare) ⊛ ‵ (flft (μ ∷ []) fullShare) ⊛ ‵ (flft κ q) ⊛ ‵ ftrue) ⊛ ‵ (B.the-row .own r (u ∷ []))) ⊛ raw (ensured 𝓤 H A callee.ended (callee.clauses 𝓤 H A mem run) (ν ∷ [], (μ ∷ [], (κ, tt))) (arg l₃ l₄ ν μ δ ε) tt r)))) (id⊢ 𝓤 _) $
+          calls-at ! fm (Callee 𝓤 H A mem run) known (to l₃ l₄ ν μ δ ε) (and-then ! (load ! (from ! (stop !)) (look ! 11 refl)) (and-then ! (load ! (from ! (fld ! {τ = word} {d = 12928} refl (stop !))) (look-in ! 23 (sub ! {τs = fields} 1 {τ = word} {d = 12928} refl (whole !)))) (and-then ! (load ! (from ! (stop !)) (look ! 7 refl)) (and-then ! (load ! (from ! (fld ! {τ = word} {d = 47752} refl (stop !))) (look-in ! 23 (sub ! {τs = fields} 3 {τ = word} {d = 47752} refl (whole !)))) (and-then ! (load ! (from ! (stop !)) (look ! 21 refl)) (no-more !)))))) (λ u. use1 W (later (some (λ (r : Applied). ((‵ (flft (ν ∷ []) fullShare) ⊛ ‵ (flft (μ ∷ []) fullShare) ⊛ ‵ (flft κ q) ⊛ ‵ ftrue) ⊛ ‵ (B.the-row .own r (u ∷ []))) ⊛ raw (ensured 𝓤 H A callee.ended (callee.clauses 𝓤 H A mem run) (ν ∷ [], (μ ∷ [], (κ, tt))) (arg l₃ l₄ ν μ δ ε) tt r)))) (id⊢ 𝓤 _) $
           await ! tt $
           pick ! (λ r. split ! $
           move ! (1 ∷ []) $
@@ -332,8 +328,8 @@ module _ {M : Type 1} (𝓤 : URA M) (H : Heap 𝓤) (A : Atoms 𝓤) (W : Given
           split ! $
           move ! (1 ∷ []) $
           drop ! $
-          assigns ! (of-opd ! (load ! (from ! (fld ! refl (stop !))) (look-in ! 24 (sub ! 0 refl (whole !))))) (from ! (stop !)) (init ! 20 refl (array-lawful 𝓤 H A W G.the-row (LL.lawful G.the-type G′.the-laws 𝓤 H A W) 16 .typed gs _ (has .registries) .0)) $
-          assigns ! (of-opd ! (load ! (from ! (fld ! refl (stop !))) (look-in ! 24 (sub ! 2 refl (whole !))))) (from ! (stop !)) (init ! 18 refl (array-lawful 𝓤 H A W T.the-row (LL.lawful T.the-type T′.the-laws 𝓤 H A W) 256 .typed ws _ (has .rows) .0)) $
+          assigns ! (of-opd ! (load ! (from ! (fld ! {τ = arr-g} {d = 0} refl (stop !))) (look-in ! 24 (sub ! {τs = fields} 0 {τ = arr-g} {d = 0} refl (whole !))))) (from ! (stop !)) (init ! 20 refl (array-lawful 𝓤 H A W G.the-row (LL.lawful G.the-type G′.the-laws 𝓤 H A W) 16 .typed gs _ (has .registries) .0)) $
+          assigns ! (of-opd ! (load ! (from ! (fld ! {τ = arr-w} {d = 12936} refl (stop !))) (look-in ! 24 (sub ! {τs = fields} 2 {τ = arr-w} {d = 12936} refl (whole !))))) (from ! (stop !)) (init ! 18 refl (array-lawful 𝓤 H A W T.the-row (LL.lawful T.the-type T′.the-laws 𝓤 H A W) 256 .typed ws _ (has .rows) .0)) $
           assigns ! (addr ! (from ! (stop !))) (from ! (stop !)) (init ! 12 refl (tt, tt)) $
           assigns ! (agg ! (and-then ! (load ! (from ! (stop !)) (look ! 12 refl)) (and-then ! (lit ! tt) (no-more !)))) (from ! (stop !)) (init ! 10 refl (tt, (tt, (record { fits = lit< tt }, tt)))) $
           rewrite ! 10 (λ (z : ℕ). ‵ (fat fullShare slice-g l₈ 0 (sliceVal (l₃, 0) z))) (sym (length-g gs (has .registries))) refl $

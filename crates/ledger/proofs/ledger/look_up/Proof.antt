@@ -48,6 +48,7 @@ use Rattle.registry_state.proofs.state.CredentialState.Laws as T′
 use Rattle.ledger_table.specs.declared.table.Ledger.{Ledger}
 use Rattle.ledger_table.proofs.table.Ledger as K
 use Rattle.ledger_table.proofs.table.Ledger.Laws as K′
+use Rattle.ledger.proofs.HeldFields.{word, arr-g, arr-w, fields}
 use Rattle.ledger_table.proofs.ArrayLoans.{Shared, shares, unshares}
 use Rattle.ledger_table.proofs.Spelled.{low-g, low-w, spelled, tells, Parts, parts, length-g, length-w, room-g, room-w}
 use Rattle.cesr.specs.declared.primitive.Said.{Said}
@@ -73,17 +74,11 @@ abbrev stayed : Stays (me.ended .signature .params) (me.ended .kept)
 stayed = (stay-none (λ _. K.the-row) yes, (stay-none (λ _. S.the-row) yes, (stay-none (λ _. S.the-row) yes, tt)))
 
 -- ---- the types of the locals
-abbrev arr-g : Ty
-arr-g = tyArray G′.mir 16
-
 abbrev aref-g : Ty
 aref-g = tyRef erased imm (tyArray (pointee (G.the-row .written)) 16)
 
 abbrev slice-g : Ty
 slice-g = sliceTy (tyRef erased imm (pointee (G.the-row .written)))
-
-abbrev arr-w : Ty
-arr-w = tyArray T′.mir 256
 
 abbrev aref-w : Ty
 aref-w = tyRef erased imm (tyArray (pointee (T.the-row .written)) 256)
@@ -232,7 +227,7 @@ module _ {M : Type 1} (𝓤 : URA M) (H : Heap 𝓤) (A : Atoms 𝓤) (W : Given
           move ! (3 ∷ 0 ∷ []) $
           join ! $
           use1 W (raw (Callee 𝓤 H A mem run .pre (to l₄ l₅ ν δ ε))) (goes l₄ l₅ ν δ ε) $
-          calls-at ! fm (Callee 𝓤 H A mem run) known (to l₄ l₅ ν δ ε) (and-then ! (load ! (from ! (stop !)) (look ! 7 refl)) (and-then ! (load ! (from ! (fld ! refl (stop !))) (look-in ! 17 (sub ! 1 refl (whole !)))) (and-then ! (load ! (from ! (stop !)) (look ! 3 refl)) (and-then ! (load ! (from ! (fld ! refl (stop !))) (look-in ! 17 (sub ! 3 refl (whole !)))) (and-then ! (load ! (from ! (stop !)) (look ! 15 refl)) (and-then ! (load ! (from ! (stop !)) (look ! 13 refl)) (no-more !))))))) (λ u. use1 W (later (some (λ (r : Answered). ((‵ (flft (ν ∷ []) fullShare) ⊛ ‵ ftrue) ⊛ ‵ (P.the-row .own r (u ∷ []))) ⊛ raw (ensured 𝓤 H A callee.ended (callee.clauses 𝓤 H A mem run) (ν ∷ [], tt) (arg l₄ l₅ ν δ ε) tt r)))) (id⊢ 𝓤 _) $
+          calls-at ! fm (Callee 𝓤 H A mem run) known (to l₄ l₅ ν δ ε) (and-then ! (load ! (from ! (stop !)) (look ! 7 refl)) (and-then ! (load ! (from ! (fld ! {τ = word} {d = 12928} refl (stop !))) (look-in ! 17 (sub ! {τs = fields} 1 {τ = word} {d = 12928} refl (whole !)))) (and-then ! (load ! (from ! (stop !)) (look ! 3 refl)) (and-then ! (load ! (from ! (fld ! {τ = word} {d = 47752} refl (stop !))) (look-in ! 17 (sub ! {τs = fields} 3 {τ = word} {d = 47752} refl (whole !)))) (and-then ! (load ! (from ! (stop !)) (look ! 15 refl)) (and-then ! (load ! (from ! (stop !)) (look ! 13 refl)) (no-more !))))))) (λ u. use1 W (later (some (λ (r : Answered). ((‵ (flft (ν ∷ []) fullShare) ⊛ ‵ ftrue) ⊛ ‵ (P.the-row .own r (u ∷ []))) ⊛ raw (ensured 𝓤 H A callee.ended (callee.clauses 𝓤 H A mem run) (ν ∷ [], tt) (arg l₄ l₅ ν δ ε) tt r)))) (id⊢ 𝓤 _) $
           await ! tt $
           pick ! (λ r. split ! $
           move ! (1 ∷ []) $
@@ -246,8 +241,8 @@ module _ {M : Type 1} (𝓤 : URA M) (H : Heap 𝓤) (A : Atoms 𝓤) (W : Given
 
       begins : Sq W (‵ (froom slice-w l₉ 0) ∷ ‵ (fdies slice-w l₉) ∷ ‵ (froom aref-w l₈ 0) ∷ ‵ (fdies aref-w l₈) ∷ ‵ (froom slice-g l₇ 0) ∷ ‵ (fdies slice-g l₇) ∷ ‵ (froom aref-g l₆ 0) ∷ ‵ (fdies aref-g l₆) ∷ ‵ (froom arr-w l₅ 0) ∷ ‵ (fdies arr-w l₅) ∷ ‵ (froom arr-g l₄ 0) ∷ ‵ (fdies arr-g l₄) ∷ ‵ (fat fullShare S′.mir l₃ 0 (S′.lowered credential)) ∷ ‵ (fdies S′.mir l₃) ∷ ‵ (fat fullShare S′.mir l₂ 0 (S′.lowered registry)) ∷ ‵ (fdies S′.mir l₂) ∷ ‵ (fat fullShare K′.mir l₁ 0 (spelled ledger)) ∷ ‵ (fdies K′.mir l₁) ∷ ‵ (froom P′.mir l₀ 0) ∷ ‵ (fdies P′.mir l₀) ∷ []) (runs C Λ En mirᶠ.t-1 (atRet En Post))
       begins =
-          assigns ! (of-opd ! (load ! (from ! (fld ! refl (stop !))) (look-in ! 16 (sub ! 0 refl (whole !))))) (from ! (stop !)) (init ! 10 refl (array-lawful 𝓤 H A W G.the-row (LL.lawful G.the-type G′.the-laws 𝓤 H A W) 16 .typed gs _ (has .registries) .0)) $
-          assigns ! (of-opd ! (load ! (from ! (fld ! refl (stop !))) (look-in ! 16 (sub ! 2 refl (whole !))))) (from ! (stop !)) (init ! 8 refl (array-lawful 𝓤 H A W T.the-row (LL.lawful T.the-type T′.the-laws 𝓤 H A W) 256 .typed ws _ (has .rows) .0)) $
+          assigns ! (of-opd ! (load ! (from ! (fld ! {τ = arr-g} {d = 0} refl (stop !))) (look-in ! 16 (sub ! {τs = fields} 0 {τ = arr-g} {d = 0} refl (whole !))))) (from ! (stop !)) (init ! 10 refl (array-lawful 𝓤 H A W G.the-row (LL.lawful G.the-type G′.the-laws 𝓤 H A W) 16 .typed gs _ (has .registries) .0)) $
+          assigns ! (of-opd ! (load ! (from ! (fld ! {τ = arr-w} {d = 12936} refl (stop !))) (look-in ! 16 (sub ! {τs = fields} 2 {τ = arr-w} {d = 12936} refl (whole !))))) (from ! (stop !)) (init ! 8 refl (array-lawful 𝓤 H A W T.the-row (LL.lawful T.the-type T′.the-laws 𝓤 H A W) 256 .typed ws _ (has .rows) .0)) $
           assigns ! (addr ! (from ! (stop !))) (from ! (stop !)) (init ! 6 refl (tt, tt)) $
           assigns ! (agg ! (and-then ! (load ! (from ! (stop !)) (look ! 6 refl)) (and-then ! (lit ! tt) (no-more !)))) (from ! (stop !)) (init ! 4 refl (tt, (tt, (record { fits = lit< tt }, tt)))) $
           rewrite ! 4 (λ (z : ℕ). ‵ (fat fullShare slice-g l₇ 0 (sliceVal (l₄, 0) z))) (sym (length-g gs (has .registries))) refl $

@@ -50,6 +50,7 @@ use Rattle.registry_state.proofs.state.CredentialState.Laws as T′
 use Rattle.ledger_table.specs.declared.table.Ledger.{Ledger}
 use Rattle.ledger_table.proofs.table.Ledger as K
 use Rattle.ledger_table.proofs.table.Ledger.Laws as K′
+use Rattle.ledger.proofs.HeldFields.{word, arr-g, arr-w, fields}
 use Rattle.ledger_table.proofs.ArrayLoans.{Shared, shares, unshares}
 use Rattle.ledger_table.proofs.Spelled.{low-g, low-w, spelled, tells, Parts, parts, length-g, length-w, room-g, room-w}
 use Rattle.ledger_step.specs.Ledgers.{lentLedger}
@@ -73,17 +74,11 @@ abbrev stayed : Stays (me.ended .signature .params) (me.ended .kept)
 stayed = (stay-none (λ _. K.the-row) yes, (gave-slice (0 ∷ []) tt (plain (λ _. u8)), tt))
 
 -- ---- the types of the locals
-abbrev arr-g : Ty
-arr-g = tyArray G′.mir 16
-
 abbrev aref-g : Ty
 aref-g = tyRef erased imm (tyArray (pointee (G.the-row .written)) 16)
 
 abbrev slice-g : Ty
 slice-g = sliceTy (tyRef erased imm (pointee (G.the-row .written)))
-
-abbrev arr-w : Ty
-arr-w = tyArray T′.mir 256
 
 abbrev aref-w : Ty
 aref-w = tyRef erased imm (tyArray (pointee (T.the-row .written)) 256)
@@ -255,7 +250,7 @@ module _ {M : Type 1} (𝓤 : URA M) (H : Heap 𝓤) (A : Atoms 𝓤) (W : Given
           move ! (3 ∷ 0 ∷ []) $
           join ! $
           use1 W (raw (Callee 𝓤 H A mem run .pre (to l₃ l₄ ν δ ε))) (goes l₃ l₄ ν δ ε) $
-          calls-at ! fm (Callee 𝓤 H A mem run) known (to l₃ l₄ ν δ ε) (and-then ! (load ! (from ! (stop !)) (look ! 11 refl)) (and-then ! (load ! (from ! (fld ! refl (stop !))) (look-in ! 19 (sub ! 1 refl (whole !)))) (and-then ! (load ! (from ! (stop !)) (look ! 7 refl)) (and-then ! (load ! (from ! (fld ! refl (stop !))) (look-in ! 19 (sub ! 3 refl (whole !)))) (and-then ! (load ! (from ! (stop !)) (look ! 3 refl)) (no-more !)))))) (λ u. use1 W (later (some (λ (r : Answered). ((‵ (flft (ν ∷ []) fullShare) ⊛ ‵ (flft κ q) ⊛ ‵ ftrue) ⊛ ‵ (P.the-row .own r (u ∷ []))) ⊛ raw (ensured 𝓤 H A callee.ended (callee.clauses 𝓤 H A mem run) (ν ∷ [], (κ, tt)) (arg l₃ l₄ ν δ ε) tt r)))) (id⊢ 𝓤 _) $
+          calls-at ! fm (Callee 𝓤 H A mem run) known (to l₃ l₄ ν δ ε) (and-then ! (load ! (from ! (stop !)) (look ! 11 refl)) (and-then ! (load ! (from ! (fld ! {τ = word} {d = 12928} refl (stop !))) (look-in ! 19 (sub ! {τs = fields} 1 {τ = word} {d = 12928} refl (whole !)))) (and-then ! (load ! (from ! (stop !)) (look ! 7 refl)) (and-then ! (load ! (from ! (fld ! {τ = word} {d = 47752} refl (stop !))) (look-in ! 19 (sub ! {τs = fields} 3 {τ = word} {d = 47752} refl (whole !)))) (and-then ! (load ! (from ! (stop !)) (look ! 3 refl)) (no-more !)))))) (λ u. use1 W (later (some (λ (r : Answered). ((‵ (flft (ν ∷ []) fullShare) ⊛ ‵ (flft κ q) ⊛ ‵ ftrue) ⊛ ‵ (P.the-row .own r (u ∷ []))) ⊛ raw (ensured 𝓤 H A callee.ended (callee.clauses 𝓤 H A mem run) (ν ∷ [], (κ, tt)) (arg l₃ l₄ ν δ ε) tt r)))) (id⊢ 𝓤 _) $
           await ! tt $
           pick ! (λ r. split ! $
           move ! (1 ∷ []) $
@@ -295,8 +290,8 @@ module _ {M : Type 1} (𝓤 : URA M) (H : Heap 𝓤) (A : Atoms 𝓤) (W : Given
           split ! $
           move ! (1 ∷ []) $
           drop ! $
-          assigns ! (of-opd ! (load ! (from ! (fld ! refl (stop !))) (look-in ! 20 (sub ! 0 refl (whole !))))) (from ! (stop !)) (init ! 16 refl (array-lawful 𝓤 H A W G.the-row (LL.lawful G.the-type G′.the-laws 𝓤 H A W) 16 .typed gs _ (has .registries) .0)) $
-          assigns ! (of-opd ! (load ! (from ! (fld ! refl (stop !))) (look-in ! 20 (sub ! 2 refl (whole !))))) (from ! (stop !)) (init ! 14 refl (array-lawful 𝓤 H A W T.the-row (LL.lawful T.the-type T′.the-laws 𝓤 H A W) 256 .typed ws _ (has .rows) .0)) $
+          assigns ! (of-opd ! (load ! (from ! (fld ! {τ = arr-g} {d = 0} refl (stop !))) (look-in ! 20 (sub ! {τs = fields} 0 {τ = arr-g} {d = 0} refl (whole !))))) (from ! (stop !)) (init ! 16 refl (array-lawful 𝓤 H A W G.the-row (LL.lawful G.the-type G′.the-laws 𝓤 H A W) 16 .typed gs _ (has .registries) .0)) $
+          assigns ! (of-opd ! (load ! (from ! (fld ! {τ = arr-w} {d = 12936} refl (stop !))) (look-in ! 20 (sub ! {τs = fields} 2 {τ = arr-w} {d = 12936} refl (whole !))))) (from ! (stop !)) (init ! 14 refl (array-lawful 𝓤 H A W T.the-row (LL.lawful T.the-type T′.the-laws 𝓤 H A W) 256 .typed ws _ (has .rows) .0)) $
           assigns ! (addr ! (from ! (stop !))) (from ! (stop !)) (init ! 12 refl (tt, tt)) $
           assigns ! (agg ! (and-then ! (load ! (from ! (stop !)) (look ! 12 refl)) (and-then ! (lit ! tt) (no-more !)))) (from ! (stop !)) (init ! 10 refl (tt, (tt, (record { fits = lit< tt }, tt)))) $
           rewrite ! 10 (λ (z : ℕ). ‵ (fat fullShare slice-g l₆ 0 (sliceVal (l₃, 0) z))) (sym (length-g gs (has .registries))) refl $

@@ -6,7 +6,9 @@ use lib.ListN.{length}
 use Rattle.codec_cursor.specs.Readers.{times}
 use Rattle.codec.specs.Events.{viewCountRead}
 use Rattle.ledger_image.specs.Images.{wideCount}
-use Rattle.ledger_image_check.specs.Checks.{viewIds, registriesPass}
+use Rattle.ledger_image_ids.specs.IdLists.{viewIds}
+use Rattle.ledger_image_ids.proofs.IdViews.{pushed-room}
+use Rattle.ledger_image_check.specs.Checks.{registriesPass}
 use Rattle.ledger_image_check.proofs.Counts.{count-within}
 use Rattle.ledger_image_check.proofs.RegistryChecks.{Turned, turn, section-end}
 use Rattle.ledger_image_check.proofs.registries.check_registries.Statement.{statement}
@@ -46,7 +48,7 @@ few : (c : tie.In-loop Inv-loop μ-loop) → c .before .loop .i < 16
 few c = omega (arith, c .loop-test .taken, count-within 16 _ _ _ (c .before .before .before .before .read-count .ensures))
 
 push-requires : tie.Need-push-requires Inv-loop μ-loop
-push-requires c κs = let b4 = c .before .before .before .before in omega (arith, few b4, b4 .before .loop .inv .1 .size)
+push-requires c κs = search needs
 
 add-i : tie.Need-add-i Inv-loop μ-loop
 add-i c = let b6 = c .before .before .before .before .before .before in omega (arith, few b6)
@@ -61,9 +63,11 @@ loop-again c =
     let b4 = b3 .before in
     let b5 = b4 .before in
     let b6 = b5 .before in
-    let g = b5 .read-registry in (
+    let l = b6 .before .loop in
+    let g = b5 .read-registry in
+    let room : length (viewIds (l .ids)) < 16 = omega (arith, few b6, l .inv .1 .size) in (
       omega (arith, b6 .loop-test .taken),
-      turn _ _ _ _ _ _ (b6 .before .loop .inv .1) (g .result .value) (g .result .next) (g .ensures .0) (g .ensures .1) _ _ (b4 .contains .ensures) (b3 .registry-sound .ensures) _ (b1 .push .ensures),
+      turn _ _ _ _ _ _ (l .inv .1) (g .result .value) (g .result .next) (g .ensures .0) (g .ensures .1) _ _ (b4 .contains .ensures) (b3 .registry-sound .ensures) _ (b1 .push .ensures ∙ pushed-room _ _ room),
     )
 
 returns : tie.Need-returns Inv-loop μ-loop

@@ -1,0 +1,2 @@
+// Judges the rows of an image by its bytes (docs/RULES.md, "Image", "Reading rules").
+pub mod rows;
