@@ -1,7 +1,7 @@
 -- Laws of what is compared.
 --     same-test   a test that is true of equal lists alone is `sameList`
 --     written, filled   bytes that were stored at the start of a buffer with room for them, or just so much
---     well-trimmed      a state whose counts are within the limits
+--     well-counted      a state whose counts are within the limits
 --     record-cut        the parts of a record
 use Prim.Native.Nat.{ℕ, _+_, _≤_}
 use mathlib.Core.Path.{_≡_, refl, sym, _∙_}
@@ -41,9 +41,9 @@ filled l vs e =
     sym (take-all (length vs) (put l 0 vs) (omega (arith, length-put l 0 vs))) ∙ written l vs (omega arith)
 
 -- a state whose counts are within the limits is judged by its view
-pub well-trimmed : (g : RegistryState) → g .configs .count ≤ 8 → g .backers .count ≤ 16 → wellRegistry g ≡ wellView (viewRegistry g)
+pub well-counted : (g : RegistryState) → g .configs .count ≤ 8 → g .backers .count ≤ 16 → wellRegistry g ≡ wellView (viewRegistry g)
 unfolding wellRegistry wellView
-well-trimmed g h k = rw (le-leb (g .configs .count) 8 h, le-leb (g .backers .count) 16 k)
+well-counted g h k = rw (le-leb (g .configs .count) 8 h, le-leb (g .backers .count) 16 k)
 
 -- a part from one place to another is so many bytes
 part-run : (s : List ℕ) (from to n : ℕ) → to ≡ from + n → partOf s (record { from = from; to = to }) ≡ part s from n

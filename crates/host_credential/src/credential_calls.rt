@@ -3,10 +3,10 @@ use codec_cursor::cursor::Cursor;
 use host_next::credential_next::leave_credential;
 use host_parts::part::is_whole;
 use host_parts::part::malformed;
-use ledger_image_check::registries::read_registry;
 use registry_credential_state::credential_state::ingest;
 use registry_issue::credential_state::incept;
 use registry_state::state::CredentialState;
+use registry_state::state::RegistryState;
 ghost use mathlib.Core.Path.{_≡_};
 ghost use Rattle.host_next.specs.ByteFolds.{called, callOf};
 ghost use Rattle.host_credential.specs.CredentialByteFolds.{credentialIncept, credentialIngest};
@@ -20,7 +20,7 @@ pub fn credential_incept(
 ) -> u8
     ensures { λ r. ⌜ called r (now (report .exit)) (now (next .exit)) ≡ callOf (credentialIncept (now (registry .entry)) (now (attempt .entry))) (now (next .entry)) ⌝ }
 {
-    let g = read_registry(Cursor::start(), registry);
+    let g = RegistryState::read(Cursor::start(), registry);
     if !is_whole(g.next, registry) {
         return malformed(report);
     }
@@ -37,7 +37,7 @@ pub fn credential_ingest(
 ) -> u8
     ensures { λ r. ⌜ called r (now (report .exit)) (now (next .exit)) ≡ callOf (credentialIngest (now (registry .entry)) (now (credential .entry)) (now (attempt .entry))) (now (next .entry)) ⌝ }
 {
-    let g = read_registry(Cursor::start(), registry);
+    let g = RegistryState::read(Cursor::start(), registry);
     let w = CredentialState::read(Cursor::start(), credential);
     if !(is_whole(g.next, registry) & is_whole(w.next, credential)) {
         return malformed(report);

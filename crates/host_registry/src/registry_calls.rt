@@ -3,9 +3,9 @@ use codec_cursor::cursor::Cursor;
 use host_next::registry_next::leave_registry;
 use host_parts::part::is_whole;
 use host_parts::part::malformed;
-use ledger_image_check::registries::read_registry;
 use registry::registry::ingest;
 use registry_inception::registry::incept_with_evidence;
+use registry_state::state::RegistryState;
 ghost use mathlib.Core.Path.{_≡_};
 ghost use Rattle.host_next.specs.ByteFolds.{called, callOf};
 ghost use Rattle.host_registry.specs.RegistryByteFolds.{registryIncept, registryIngest};
@@ -21,7 +21,7 @@ pub fn registry_incept(attempt: &[u8], next: &mut [u8], report: &mut [u8; 36]) -
 pub fn registry_ingest(state: &[u8], attempt: &[u8], next: &mut [u8], report: &mut [u8; 36]) -> u8
     ensures { λ r. ⌜ called r (now (report .exit)) (now (next .exit)) ≡ callOf (registryIngest (now (state .entry)) (now (attempt .entry))) (now (next .entry)) ⌝ }
 {
-    let g = read_registry(Cursor::start(), state);
+    let g = RegistryState::read(Cursor::start(), state);
     if !is_whole(g.next, state) {
         return malformed(report);
     }

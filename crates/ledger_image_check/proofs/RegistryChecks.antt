@@ -1,37 +1,26 @@
 -- The registries of an image, as they are checked one by one.
 --     pass-registries     each passes exactly where all keep the rules of one registry and no two have one id
 --     rules-registries    so they keep the reading rules that speak of registries alone
---     registry-read       a registry that was read keeps to its layout, with lists whose counts are within the limits
-use Prim.Native.Nat.{ℕ, zero, suc, _+_, _≤_}
+use Prim.Native.Nat.{ℕ, zero, suc, _+_}
 use mathlib.Core.Path.{_≡_, refl, sym, ap, _∙_}
 use mathlib.Core.Bool.{Bool, true, false, not, _&&_, and-false}
 use mathlib.Core.List.{List, [], _∷_, _++_, map, map-append}
 use native.Mathlib.Numerals.{add-one}
-use borrow.Author.Tests.{le-leb}
 use lib.Dec.{leb}
 use lib.ListN.{length, length-append}
-use Rattle.laws.specs.Number.{Bytes}
-use Rattle.laws.proofs.Tests.{and-left, and-right}
-use Rattle.cesr.specs.Primitives.{eqSaid, isBasic, isSaid}
+use Rattle.cesr.specs.Primitives.{eqSaid}
 use Rattle.cesr.specs.declared.primitive.Said.{Said}
-use Rattle.events.specs.Members.{view}
-use Rattle.events.specs.declared.member_set.Members.{Members}
-use Rattle.events_tel.specs.Configs.{viewConfigs}
-use Rattle.events_tel.specs.declared.config.Configs.{Configs}
 use Rattle.codec_cursor.specs.declared.cursor.Cursor.{Cursor}
-use Rattle.codec_cursor.specs.Readers.{Read, starting, isIdentifier, times}
-use Rattle.codec.specs.Layout.{all, isMatter, goodSaid, goodIdentifier, goodSn, goodToad, goodConfigs, goodPrefix, goodPrefixes}
-use Rattle.codec.proofs.Codes.{and-true as and-both}
+use Rattle.codec_cursor.specs.Readers.{Read, starting, times}
+use Rattle.codec.specs.Layout.{all}
 use Rattle.codec.proofs.CodesList.{all-snoc}
-use Rattle.registry_state.specs.States.{Registry, viewRegistry, readRegistry, goodRegistry, isBacker, wellRegistry}
+use Rattle.registry_state.specs.States.{Registry, viewRegistry, readRegistry, wellRegistry}
 use Rattle.registry_state.specs.declared.state.RegistryState.{RegistryState}
-use Rattle.registry_state.proofs.CodesState.{codes-registry}
 use Rattle.registry_laws.specs.ReadingRules.{soundRegistry}
 use Rattle.ledger_step.specs.Tables.{has, distinct}
 use Rattle.ledger_step.specs.Ledgers.{holds, idOf, keepsLayout, keepsRules, registryRules}
 use Rattle.ledger_step.specs.Steps.{heldNow}
 use Rattle.ledger_step.proofs.Rules.{said-test}
-use Rattle.ledger_step.proofs.TableLaws.{all-weaker}
 use Rattle.ledger_image.specs.Images.{wideCount, wideSection, readRegistries}
 use Rattle.ledger_image_check.specs.Checks.{idIn, registriesPass, sectionPasses}
 use Rattle.ledger_image_check.proofs.Sticky.{registry-sticky}
@@ -124,40 +113,3 @@ rules-registries gs h =
     go true false = refl
     go false true = refl
     go false false = refl
-
--- the same state with other lists
-abbrev trimmed : RegistryState → Configs → Members → RegistryState
-trimmed g configs backers =
-    record { id = g .id; issuer = g .issuer; sn = g .sn; latest = g .latest; toad = g .toad; configs = configs; backers = backers }
-
--- a state within the limits of the layout keeps to it, where its counts are within theirs
-held-well : (g : RegistryState) → goodRegistry (viewRegistry g) ≡ true → g .configs .count ≤ 8 → g .backers .count ≤ 16 → wellRegistry g ≡ true
-unfolding goodRegistry wellRegistry goodSaid goodIdentifier goodConfigs goodPrefixes goodPrefix
-held-well g h m n =
-    let v = viewRegistry g in
-    let h1 = and-right (goodSaid (v .id)) _ h in
-    let h2 = and-right (goodIdentifier (v .issuer)) _ h1 in
-    let h3 = and-right (goodSn (v .sn)) _ h2 in
-    let h4 = and-right (goodSaid (v .latest)) _ h3 in
-    let h5 = and-right (goodToad (v .toad)) _ h4 in
-    let backers = and-right (leb (length (v .backers)) 16) _ (and-right (goodConfigs (v .configs)) _ h5) in
-    and-both _ _ (le-leb (g .configs .count) 8 m)
-    (and-both _ _ (le-leb (g .backers .count) 16 n)
-    (and-both _ _ (and-left (isSaid (v .id .0)) _ (and-left (goodSaid (v .id)) _ h))
-    (and-both _ _ (and-left (isIdentifier (v .issuer)) _ (and-left (goodIdentifier (v .issuer)) _ h1))
-    (and-both _ _ (and-left (isSaid (v .latest .0)) _ (and-left (goodSaid (v .latest)) _ h3))
-    (and-both _ _ (and-right (leb (length (v .configs)) 8) _ (and-left (goodConfigs (v .configs)) _ h5))
-    (all-weaker goodPrefix isBacker (v .backers) (λ p q. and-left (isBasic (p .0)) (isMatter (p .0)) q) backers))))))
-
-pub registry-read : (s : List ℕ) (c : Cursor) → Bytes s → (g : RegistryState) (configs : Configs) (backers : Members) (d : Cursor)
-    → record { value = viewRegistry g; next = d } ≡ readRegistry s c
-    → (viewConfigs configs ≡ viewConfigs (g .configs)) × (configs .count ≤ 8)
-    → (view backers ≡ view (g .backers)) × (backers .count ≤ 16)
-    → (record { value = viewRegistry (trimmed g configs backers); next = d } ≡ readRegistry s c) × (d .ok ≡ true → wellRegistry (trimmed g configs backers) ≡ true)
-registry-read s c b g configs backers d e m n =
-    let same : record { value = viewRegistry (trimmed g configs backers); next = d } ≡ readRegistry s c = rw (m .0, n .0) e in (
-      same,
-      λ o.
-          let good = codes-registry .sound s c b (ap (λ (r : Read Registry). r .next .ok) (sym e) ∙ o) .limits in
-          held-well (trimmed g configs backers) (ap (λ (r : Read Registry). goodRegistry (r .value)) same ∙ good) (m .1) (n .1),
-    )

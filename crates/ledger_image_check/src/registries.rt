@@ -3,13 +3,10 @@ use codec_cursor::cursor::Cursor;
 use ledger_image::image::read_count;
 use ledger_image_ids::ids::Ids;
 use ledger_registries_check::check::registry_sound;
-use registry_state::state::RegistryRead;
 use registry_state::state::RegistryState;
 ghost use mathlib.Core.Path.{_≡_};
-ghost use mathlib.Core.Bool.{true};
 ghost use mathlib.Core.List.{map};
 ghost use Rattle.codec_cursor.specs.Readers.{starting};
-ghost use Rattle.registry_state.specs.States.{readRegistry, viewRegistryRead, wellRegistry};
 ghost use Rattle.ledger_image.specs.Images.{readRegistries};
 ghost use Rattle.ledger_image_ids.specs.IdLists.{viewIds};
 ghost use Rattle.ledger_image_check.specs.Checks.{idIn, sectionPasses};
@@ -19,33 +16,6 @@ pub struct SectionRead {
     pub ok: bool,
     pub ids: Ids,
     pub next: Cursor,
-}
-
-// The registry at a cursor. Its counts are those of its lists, so a registry that was read keeps to its layout.
-pub fn read_registry(c: Cursor, s: &[u8]) -> RegistryRead
-    ensures read { λ r. ⌜ viewRegistryRead r ≡ readRegistry (now (s .entry)) c ⌝ }
-    ensures well { λ r. ⌜ (r .next .ok ≡ true → wellRegistry (r .value) ≡ true) ⌝ }
-{
-    let r = RegistryState::read(c, s);
-    let g = r.value;
-    let next = r.next;
-    let id = g.id;
-    let issuer = g.issuer;
-    let sn = g.sn;
-    let latest = g.latest;
-    let toad = g.toad;
-    let configs = g.configs.trimmed();
-    let backers = g.backers.trimmed();
-    let value = RegistryState {
-        id,
-        issuer,
-        sn,
-        latest,
-        toad,
-        configs,
-        backers,
-    };
-    RegistryRead { value, next }
 }
 
 // A registry passes where it is there, keeps the rules of one registry, and has the id of none before it.
@@ -61,7 +31,7 @@ pub(crate) fn check_registries(s: &[u8]) -> SectionRead
     let mut ids = Ids::empty();
     let mut i: usize = 0;
     while i < count {
-        let g = read_registry(next, s);
+        let g = RegistryState::read(next, s);
         let known = ids.contains(g.value.id);
         ok = ok & (g.next.ok & (registry_sound(g.value) & !known));
         ids = ids.push(g.value.id);

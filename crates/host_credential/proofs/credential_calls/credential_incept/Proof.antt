@@ -13,8 +13,8 @@ use Rattle.host_credential.proofs.credential_calls.credential_incept.Ti
 start-requires : tie.Need-start-requires
 start-requires c κs = search needs
 
-read-registry-requires : tie.Need-read-registry-requires
-read-registry-requires c κs = search needs
+read-requires : tie.Need-read-requires
+read-requires c κs = search needs
 
 is-whole-requires : tie.Need-is-whole-requires
 is-whole-requires c κs = search needs
@@ -29,7 +29,7 @@ returns c =
     let b3 = b2 .before in
     let b4 = b3 .before in
     let a = b4 .before .before .before .before .before .args in
-    let e = registry-none (now (a .registry)) _ _ (b4 .before .start .ensures) (b4 .read-registry .result) (b4 .read-registry .ensures .0) (b3 .is-whole .ensures) (not-true _ (b2 .if1 .taken)) in
+    let e = registry-none (now (a .registry)) _ _ (b4 .before .start .ensures) (b4 .read .result) (b4 .read .ensures .0) (b3 .is-whole .ensures) (not-true _ (b2 .if1 .taken)) in
     no-state (credentialIncept (now (a .registry)) (now (a .attempt))) _ _ _ (rw e) (c .malformed .ensures)
 
 incept-requires : tie.Need-incept-requires
@@ -49,15 +49,15 @@ returns-2 c =
     let b7 = b6 .before in
     let b8 = b7 .before in
     let a = b8 .before .before .before .before .before .args in
-    let g = registry-some (now (a .registry)) _ _ (b8 .before .start .ensures) (b8 .read-registry .result) (b8 .read-registry .ensures .0) (b7 .is-whole .ensures) (not-false _ (b6 .if1 .left)) (b8 .read-registry .ensures .1) in
-    b2 .leave-credential .ensures ∙ ap (λ (f : Folded). callOf f (now (a .next))) (issue (now (a .registry)) (now (a .attempt)) (b8 .read-registry .result .value) g _ (b5 .incept .ensures))
+    let g = registry-some (now (a .registry)) _ _ (b8 .before .start .ensures) (b8 .read .result) (b8 .read .ensures .0) (b7 .is-whole .ensures) (not-false _ (b6 .if1 .left)) (b8 .read .ensures .1 .0) in
+    b2 .leave-credential .ensures ∙ ap (λ (f : Folded). callOf f (now (a .next))) (issue (now (a .registry)) (now (a .attempt)) (b8 .read .result .value) g _ (b5 .incept .ensures))
 
 pub credential-incept-spec : {M : Type 1} → statement M
 credential-incept-spec =
     tie.close
     (tie.spec
     start-requires
-    read-registry-requires
+    read-requires
     is-whole-requires
     malformed-requires
     returns

@@ -15,14 +15,14 @@ use Rattle.host_credential.proofs.credential_calls.credential_ingest.Ti
 start-requires : tie.Need-start-requires
 start-requires c κs = search needs
 
-read-registry-requires : tie.Need-read-registry-requires
-read-registry-requires c κs = search needs
+read-requires : tie.Need-read-requires
+read-requires c κs = search needs
 
 start-requires-2 : tie.Need-start-requires-2
 start-requires-2 c κs = search needs
 
-read-requires : tie.Need-read-requires
-read-requires c κs = search needs
+read-requires-2 : tie.Need-read-requires-2
+read-requires-2 c κs = search needs
 
 is-whole-requires : tie.Need-is-whole-requires
 is-whole-requires c κs = search needs
@@ -41,8 +41,8 @@ returns c =
     let b5 = b4 .before in
     let b7 = b5 .before .before in
     let a = b7 .before .before .before .before .before .before .args in
-    let g = registry-none (now (a .registry)) _ _ (b7 .before .start .ensures) (b7 .read-registry .result) (b7 .read-registry .ensures .0) (b4 .is-whole .ensures) in
-    let w = credential-none (now (a .credential)) _ _ (b5 .before .start2 .ensures) (b5 .read .result) (b5 .read .ensures) (b3 .is-whole2 .ensures) in
+    let g = registry-none (now (a .registry)) _ _ (b7 .before .start .ensures) (b7 .read .result) (b7 .read .ensures .0) (b4 .is-whole .ensures) in
+    let w = credential-none (now (a .credential)) _ _ (b5 .before .start2 .ensures) (b5 .read2 .result) (b5 .read2 .ensures) (b3 .is-whole2 .ensures) in
     let e = revocation-none (now (a .registry)) (now (a .credential)) (now (a .attempt)) _ _ g w (not-true _ (b2 .if1 .taken)) in
     no-state (credentialIngest (now (a .registry)) (now (a .credential)) (now (a .attempt))) _ _ _ e (c .malformed .ensures)
 
@@ -66,18 +66,18 @@ returns-2 c =
     let b11 = b9 .before .before in
     let a = b11 .before .before .before .before .before .before .args in
     let both = not-false _ (b6 .if1 .left) in
-    let g = registry-some (now (a .registry)) _ _ (b11 .before .start .ensures) (b11 .read-registry .result) (b11 .read-registry .ensures .0) (b8 .is-whole .ensures) (and-left (b8 .is-whole .result) (b7 .is-whole2 .result) both) (b11 .read-registry .ensures .1) in
-    let w = credential-some (now (a .credential)) _ _ (b9 .before .start2 .ensures) (b9 .read .result) (b9 .read .ensures) (b7 .is-whole2 .ensures) (and-right (b8 .is-whole .result) (b7 .is-whole2 .result) both) in
-    b2 .leave-credential .ensures ∙ ap (λ (f : Folded). callOf f (now (a .next))) (revocation (now (a .registry)) (now (a .attempt)) (b11 .read-registry .result .value) g (now (a .credential)) (b9 .read .result .value) w _ (b5 .ingest .ensures))
+    let g = registry-some (now (a .registry)) _ _ (b11 .before .start .ensures) (b11 .read .result) (b11 .read .ensures .0) (b8 .is-whole .ensures) (and-left (b8 .is-whole .result) (b7 .is-whole2 .result) both) (b11 .read .ensures .1 .0) in
+    let w = credential-some (now (a .credential)) _ _ (b9 .before .start2 .ensures) (b9 .read2 .result) (b9 .read2 .ensures) (b7 .is-whole2 .ensures) (and-right (b8 .is-whole .result) (b7 .is-whole2 .result) both) in
+    b2 .leave-credential .ensures ∙ ap (λ (f : Folded). callOf f (now (a .next))) (revocation (now (a .registry)) (now (a .attempt)) (b11 .read .result .value) g (now (a .credential)) (b9 .read2 .result .value) w _ (b5 .ingest .ensures))
 
 pub credential-ingest-spec : {M : Type 1} → statement M
 credential-ingest-spec =
     tie.close
     (tie.spec
     start-requires
-    read-registry-requires
-    start-requires-2
     read-requires
+    start-requires-2
+    read-requires-2
     is-whole-requires
     is-whole-requires-2
     malformed-requires

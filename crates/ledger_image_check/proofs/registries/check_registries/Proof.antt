@@ -34,8 +34,8 @@ unfolding times registriesPass
 loop-holds c =
     (search needs, record { at = refl; ids = c .empty .ensures; size = ap length (c .empty .ensures); pass = refl })
 
-read-registry-requires : tie.Need-read-registry-requires Inv-loop μ-loop
-read-registry-requires c κs = search needs
+read-requires : tie.Need-read-requires Inv-loop μ-loop
+read-requires c κs = search needs
 
 contains-requires : tie.Need-contains-requires Inv-loop μ-loop
 contains-requires c κs = search needs
@@ -64,10 +64,10 @@ loop-again c =
     let b5 = b4 .before in
     let b6 = b5 .before in
     let l = b6 .before .loop in
-    let g = b5 .read-registry in
+    let g = b5 .read in
     let room : length (viewIds (l .ids)) < 16 = omega (arith, few b6, l .inv .1 .size) in (
       omega (arith, b6 .loop-test .taken),
-      turn _ _ _ _ _ _ (l .inv .1) (g .result .value) (g .result .next) (g .ensures .0) (g .ensures .1) _ _ (b4 .contains .ensures) (b3 .registry-sound .ensures) _ (b1 .push .ensures ∙ pushed-room _ _ room),
+      turn _ _ _ _ _ _ (l .inv .1) (g .result .value) (g .result .next) (g .ensures .0) (g .ensures .1 .0) _ _ (b4 .contains .ensures) (b3 .registry-sound .ensures) _ (b1 .push .ensures ∙ pushed-room _ _ room),
     )
 
 returns : tie.Need-returns Inv-loop μ-loop
@@ -86,7 +86,7 @@ check-registries-spec =
     read-count-requires
     empty-requires
     loop-holds
-    read-registry-requires
+    read-requires
     contains-requires
     registry-sound-requires
     push-requires
