@@ -10,10 +10,12 @@ use Rattle.events_toad.specs.declared.toad.ToadResult.{ToadResult}
 use Rattle.events_toad.specs.declared.toad.ToadResult.the-variants.{Valid, OutOfRange, Overflow}
 use Rattle.registry_error.specs.declared.error.RegistryRejection.{RegistryRejection}
 use Rattle.registry_error.specs.declared.error.RegistryRejection.the-variants.{Malformed, BackerThreshold}
-use Rattle.registry_error.specs.declared.error.CredentialError.{CredentialError}
+use Rattle.registry_credential_error.specs.declared.credential_error.CredentialError.{CredentialError}
+use Rattle.registry_credential_error.specs.CredentialErrors.{errorNumber, errorDisposition}
 use Rattle.registry_error.specs.declared.error.Answer.{Answer}
 use Rattle.registry_error.specs.declared.error.Answer.the-variants.{Accepted, Rejected}
-use Rattle.registry_error.specs.Errors.{numberOf, dispositionOf, letterOf, awaitedOf, detailsOf, errorNumber, errorDisposition}
+use Rattle.registry_disposition.specs.Dispositions.{letterOf, awaitedOf}
+use Rattle.registry_error.specs.Errors.{numberOf, dispositionOf, detailsOf}
 use Rattle.registry_credential.specs.declared.credential.StatusOutcome.{StatusOutcome}
 use Rattle.registry_credential.specs.declared.credential.StatusOutcome.the-variants as S
 use Rattle.ledger_lookup.specs.declared.lookup.LookedUp.{LookedUp}

@@ -7,12 +7,13 @@ use crate::values::awaited;
 use crate::values::small;
 use events_toad::toad::ToadResult;
 use registry_credential::credential::StatusOutcome;
+use registry_credential_error::credential_error::CredentialError;
 use registry_error::error::Answer;
-use registry_error::error::CredentialError;
 use registry_error::error::RegistryRejection;
 ghost use mathlib.Core.Path.{_≡_};
 ghost use Rattle.events_toad.specs.Toads.{toadNumber};
-ghost use Rattle.registry_error.specs.Errors.{answerNumber, errorNumber};
+ghost use Rattle.registry_error.specs.Errors.{answerNumber};
+ghost use Rattle.registry_credential_error.specs.CredentialErrors.{errorNumber};
 ghost use Rattle.registry_credential.specs.Status.{statusNumber};
 ghost use Rattle.host_report.specs.Reports.{sizedReport, errorReport, statusReport, thresholdAnswer, toadIn, exactReport, ampleReport};
 
