@@ -8,7 +8,8 @@ use Rattle.laws.specs.Number.{digits}
 use Rattle.registry_error.specs.declared.error.RegistryRejection.{RegistryRejection}
 use Rattle.registry_error.specs.declared.error.Answer.{Answer}
 use Rattle.registry_error.specs.declared.error.Answer.the-variants.{Accepted, Rejected}
-use Rattle.registry_error.specs.Errors.{numberOf, dispositionOf, letterOf, awaitedOf, detailsOf}
+use Rattle.registry_disposition.specs.Dispositions.{letterOf, awaitedOf}
+use Rattle.registry_error.specs.Errors.{numberOf, dispositionOf, detailsOf}
 
 -- a byte each for the number, the letter, the evidence kind awaited and how many values there are, then 16 bytes for each of two values: 0 for one
 -- that is not there

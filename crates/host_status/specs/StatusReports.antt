@@ -2,8 +2,9 @@
 use Prim.Native.Nat.{ℕ}
 use mathlib.Core.List.{List, []}
 use Rattle.registry_error.specs.declared.error.RegistryRejection.the-variants.{Malformed}
-use Rattle.registry_error.specs.declared.error.CredentialError.{CredentialError}
-use Rattle.registry_error.specs.Errors.{letterOf, awaitedOf, errorNumber, errorDisposition}
+use Rattle.registry_credential_error.specs.declared.credential_error.CredentialError.{CredentialError}
+use Rattle.registry_disposition.specs.Dispositions.{letterOf, awaitedOf}
+use Rattle.registry_credential_error.specs.CredentialErrors.{errorNumber, errorDisposition}
 use Rattle.registry_credential.specs.declared.credential.StatusOutcome.{StatusOutcome}
 use Rattle.registry_credential.specs.declared.credential.StatusOutcome.the-variants as S
 use Rattle.host_report.specs.Reports.{reportBytes, acceptedReport, rejectionReport}

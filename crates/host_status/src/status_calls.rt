@@ -6,11 +6,11 @@ use host_values::values::Values;
 use host_values::values::awaited;
 use registry_credential::credential::CredentialVerifier;
 use registry_credential::credential::StatusOutcome;
+use registry_credential_error::credential_error::CredentialError;
 use registry_error::error::Answer;
-use registry_error::error::CredentialError;
 use registry_error::error::RegistryRejection;
 ghost use mathlib.Core.Path.{_≡_};
-ghost use Rattle.registry_error.specs.Errors.{errorNumber};
+ghost use Rattle.registry_credential_error.specs.CredentialErrors.{errorNumber};
 ghost use Rattle.registry_credential.specs.Status.{statusOf, statusNumber};
 ghost use Rattle.host_status.specs.StatusReports.{errorReport, statusReport};
 

@@ -10,7 +10,8 @@ use Rattle.events_tel.specs.TelEvents.{Event}
 use Rattle.events_tel.specs.TelEvents.Event.{vcp, vrt, iss, rev, bis, brv}
 use Rattle.registry_wire.specs.Attempts.{Evidence}
 use Rattle.registry_wire.specs.Attempts.Evidence.{missing, issuer, backer, backerAt}
-use Rattle.registry_error.specs.Errors.{answerNumber, answerLetter, dispositionOf, awaitedOf, detailsOf}
+use Rattle.registry_disposition.specs.Dispositions.{awaitedOf}
+use Rattle.registry_error.specs.Errors.{answerNumber, answerLetter, dispositionOf, detailsOf}
 use Rattle.registry_error.specs.declared.error.Answer.{Answer}
 use Rattle.registry_error.specs.declared.error.Answer.the-variants.{Accepted, Rejected}
 use Rattle.registry_laws.specs.Pairs.{Pair}

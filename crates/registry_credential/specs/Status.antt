@@ -12,9 +12,9 @@ use Rattle.registry_status.specs.Statuses.{Reference, Status, StatusAnswer, dec
 use Rattle.registry_status.specs.Statuses.Reference.{unnamed, named, block}
 use Rattle.registry_status.specs.Statuses.StatusAnswer.{malformed, decoded}
 use Rattle.registry_state.specs.declared.state.CredentialState.{CredentialState}
-use Rattle.registry_error.specs.Errors.{errorNumber}
-use Rattle.registry_error.specs.declared.error.CredentialError.{CredentialError}
-use Rattle.registry_error.specs.declared.error.CredentialError.the-variants.{MissingRegistry, MissingCredentialState, MissingIssuerState, MissingRegistryReference, RegistryMismatch, IssuerMismatch, IssuerStateMismatch, CredentialStateMismatch, Revoked}
+use Rattle.registry_credential_error.specs.CredentialErrors.{errorNumber}
+use Rattle.registry_credential_error.specs.declared.credential_error.CredentialError.{CredentialError}
+use Rattle.registry_credential_error.specs.declared.credential_error.CredentialError.the-variants.{MissingRegistry, MissingCredentialState, MissingIssuerState, MissingRegistryReference, RegistryMismatch, IssuerMismatch, IssuerStateMismatch, CredentialStateMismatch, Revoked}
 use Rattle.registry_credential.specs.declared.credential.StatusOutcome.{StatusOutcome}
 use Rattle.registry_credential.specs.declared.credential.StatusOutcome.the-variants.{Accepted, Malformed, Rejected}
 

@@ -1,6 +1,6 @@
 // Whether a credential is its issuer's and stands unrevoked under its registry (docs/RULES.md, "Status").
 use cesr::number::Sn;
-use registry_error::error::CredentialError;
+use registry_credential_error::credential_error::CredentialError;
 use registry_status::status::StatusInput;
 ghost use mathlib.Core.Path.{_≡_};
 ghost use Rattle.registry_state.specs.States.{viewRegistry};

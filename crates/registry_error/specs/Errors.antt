@@ -1,19 +1,14 @@
 -- The refusals: their numbers, dispositions and details (docs/RULES.md, "Refusals").
 use Prim.Native.Nat.{ℕ}
 use mathlib.Core.List.{List, [], _∷_}
-use mathlib.Core.Bool.{cond}
-use lib.Dec.{ltb}
 use Rattle.cesr.specs.Numbers.{value}
-use Rattle.cesr.specs.declared.number.Sn.{Sn}
 use Rattle.events.specs.Members.{ruleOf}
 use Rattle.registry_error.specs.declared.error.RegistryRejection.{RegistryRejection}
 use Rattle.registry_error.specs.declared.error.RegistryRejection.the-variants as R
-use Rattle.registry_error.specs.declared.error.EvidenceKind.{EvidenceKind}
-use Rattle.registry_error.specs.declared.error.EvidenceKind.the-variants as E
-use Rattle.registry_error.specs.declared.error.Disposition.{Disposition}
-use Rattle.registry_error.specs.declared.error.Disposition.the-variants.{Terminal, Contested, Awaiting}
-use Rattle.registry_error.specs.declared.error.CredentialError.{CredentialError}
-use Rattle.registry_error.specs.declared.error.CredentialError.the-variants as C
+use Rattle.registry_disposition.specs.declared.disposition.EvidenceKind.the-variants as E
+use Rattle.registry_disposition.specs.declared.disposition.Disposition.{Disposition}
+use Rattle.registry_disposition.specs.declared.disposition.Disposition.the-variants.{Terminal, Contested, Awaiting}
+use Rattle.registry_disposition.specs.Dispositions.{outOfOrder, letterOf}
 use Rattle.registry_error.specs.declared.error.Answer.{Answer}
 use Rattle.registry_error.specs.declared.error.Answer.the-variants.{Accepted, Rejected}
 
@@ -49,10 +44,6 @@ numberOf (R.MissingBackerReceipts valid required) = 27
 numberOf R.InconsistentCredential = 28
 numberOf R.NoRoom = 29
 numberOf R.ShortBuffer = 30
-
--- a number that is too high waits for the events before it, one that is taken is contested
-unfoldable pub outOfOrder : Sn → Sn → Disposition
-outOfOrder expected actual = cond (ltb (value expected) (value actual)) (Awaiting (E.PriorEvents expected)) Contested
 
 -- what the sender is to do: another try is worth it where more evidence can change the answer
 abbrev pub dispositionOf : RegistryRejection → Disposition
@@ -120,27 +111,6 @@ detailsOf R.InconsistentCredential = []
 detailsOf R.NoRoom = []
 detailsOf R.ShortBuffer = []
 
--- the letter of a disposition: T, C, W
-abbrev pub letterOf : Disposition → ℕ
-letterOf Terminal = 84
-letterOf Contested = 67
-letterOf (Awaiting e) = 87
-
--- the place, from 1, of an evidence kind among those of the source; 0 where nothing is awaited
-abbrev pub kindPlace : EvidenceKind → ℕ
-kindPlace E.CredentialTelState = 2
-kindPlace E.RegistryState = 11
-kindPlace E.IssuerState = 12
-kindPlace E.KelAnchor = 13
-kindPlace (E.PriorEvents expected) = 14
-kindPlace (E.BackerReceipts valid required) = 17
-kindPlace (E.TelAnchor s) = 20
-
-abbrev pub awaitedOf : Disposition → ℕ
-awaitedOf Terminal = 0
-awaitedOf Contested = 0
-awaitedOf (Awaiting e) = kindPlace e
-
 -- an answer's number and letter: 0 and A where the attempt is accepted
 abbrev pub answerNumber : Answer → ℕ
 answerNumber Accepted = 0
@@ -149,26 +119,3 @@ answerNumber (Rejected r) = numberOf r
 abbrev pub answerLetter : Answer → ℕ
 answerLetter Accepted = 65
 answerLetter (Rejected r) = letterOf (dispositionOf r)
-
--- the refusals of a credential's status, in the order in which they are checked
-abbrev pub errorNumber : CredentialError → ℕ
-errorNumber C.MissingRegistry = 31
-errorNumber C.MissingCredentialState = 32
-errorNumber C.MissingIssuerState = 33
-errorNumber C.MissingRegistryReference = 34
-errorNumber C.RegistryMismatch = 35
-errorNumber C.IssuerMismatch = 36
-errorNumber C.IssuerStateMismatch = 37
-errorNumber C.CredentialStateMismatch = 38
-errorNumber C.Revoked = 39
-
-abbrev pub errorDisposition : CredentialError → Disposition
-errorDisposition C.MissingRegistry = Awaiting E.RegistryState
-errorDisposition C.MissingCredentialState = Awaiting E.CredentialTelState
-errorDisposition C.MissingIssuerState = Awaiting E.IssuerState
-errorDisposition C.MissingRegistryReference = Terminal
-errorDisposition C.RegistryMismatch = Terminal
-errorDisposition C.IssuerMismatch = Terminal
-errorDisposition C.IssuerStateMismatch = Terminal
-errorDisposition C.CredentialStateMismatch = Terminal
-errorDisposition C.Revoked = Terminal

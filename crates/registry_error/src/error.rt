@@ -1,8 +1,11 @@
 // Why an attempt is turned down, and what its sender is to do (docs/RULES.md, "Refusals").
 use cesr::number::Sn;
 use events::member_set::Rule;
+use registry_disposition::disposition::Disposition;
+use registry_disposition::disposition::EvidenceKind;
+use registry_disposition::disposition::out_of_order;
 ghost use mathlib.Core.Path.{_≡_};
-ghost use Rattle.registry_error.specs.Errors.{numberOf, outOfOrder, dispositionOf, letterOf, errorNumber, errorDisposition};
+ghost use Rattle.registry_error.specs.Errors.{numberOf, dispositionOf};
 
 // Each refusal of an attempt, with its details.
 pub enum RegistryRejection {
@@ -41,37 +44,6 @@ pub enum RegistryRejection {
 pub enum Answer {
     Accepted,
     Rejected(RegistryRejection),
-}
-
-// The evidence whose arrival makes an attempt acceptable.
-pub enum EvidenceKind {
-    CredentialTelState,
-    RegistryState,
-    IssuerState,
-    KelAnchor,
-    PriorEvents { expected: Sn },
-    BackerReceipts { valid: usize, required: u32 },
-    TelAnchor { sn: Sn },
-}
-
-// What to do with an attempt: drop it or report it; compare it with what is recorded; keep it and try again.
-pub enum Disposition {
-    Terminal,
-    Contested,
-    Awaiting(EvidenceKind),
-}
-
-// The refusals of a credential's status.
-pub enum CredentialError {
-    MissingRegistry,
-    MissingCredentialState,
-    MissingIssuerState,
-    MissingRegistryReference,
-    RegistryMismatch,
-    IssuerMismatch,
-    IssuerStateMismatch,
-    CredentialStateMismatch,
-    Revoked,
 }
 
 impl RegistryRejection {
@@ -158,65 +130,6 @@ impl RegistryRejection {
             RegistryRejection::InconsistentCredential => Disposition::Terminal,
             RegistryRejection::NoRoom => Disposition::Terminal,
             RegistryRejection::ShortBuffer => Disposition::Terminal,
-        }
-    }
-}
-
-// A gap waits for the events before it; a number that is taken is contested.
-fn out_of_order(expected: Sn, actual: Sn) -> Disposition
-    ensures { λ r. ⌜ r ≡ outOfOrder expected actual ⌝ }
-{
-    if expected.less(actual) {
-        return Disposition::Awaiting(EvidenceKind::PriorEvents { expected });
-    }
-    Disposition::Contested
-}
-
-impl CredentialError {
-    pub fn number(self) -> u8
-        ensures { λ r. ⌜ r ≡ errorNumber self ⌝ }
-    {
-        match self {
-            CredentialError::MissingRegistry => 31,
-            CredentialError::MissingCredentialState => 32,
-            CredentialError::MissingIssuerState => 33,
-            CredentialError::MissingRegistryReference => 34,
-            CredentialError::RegistryMismatch => 35,
-            CredentialError::IssuerMismatch => 36,
-            CredentialError::IssuerStateMismatch => 37,
-            CredentialError::CredentialStateMismatch => 38,
-            CredentialError::Revoked => 39,
-        }
-    }
-
-    pub fn disposition(self) -> Disposition
-        ensures { λ r. ⌜ r ≡ errorDisposition self ⌝ }
-    {
-        match self {
-            CredentialError::MissingRegistry => Disposition::Awaiting(EvidenceKind::RegistryState),
-            CredentialError::MissingCredentialState => {
-                Disposition::Awaiting(EvidenceKind::CredentialTelState)
-            }
-            CredentialError::MissingIssuerState => Disposition::Awaiting(EvidenceKind::IssuerState),
-            CredentialError::MissingRegistryReference => Disposition::Terminal,
-            CredentialError::RegistryMismatch => Disposition::Terminal,
-            CredentialError::IssuerMismatch => Disposition::Terminal,
-            CredentialError::IssuerStateMismatch => Disposition::Terminal,
-            CredentialError::CredentialStateMismatch => Disposition::Terminal,
-            CredentialError::Revoked => Disposition::Terminal,
-        }
-    }
-}
-
-impl Disposition {
-    // The letter that stands for it: T, C or W.
-    pub fn letter(self) -> u8
-        ensures { λ r. ⌜ r ≡ letterOf self ⌝ }
-    {
-        match self {
-            Disposition::Terminal => b'T',
-            Disposition::Contested => b'C',
-            Disposition::Awaiting(_) => b'W',
         }
     }
 }

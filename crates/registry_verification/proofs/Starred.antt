@@ -8,7 +8,7 @@ use Rattle.cesr.specs.declared.primitive.BasicPrefix.{BasicPrefix}
 use Rattle.cesr.proofs.Matters.{eq-prefix, prefix-eq}
 use Rattle.events.specs.Members.{has}
 use Rattle.events_toad.specs.Toads.{ceil, strongMajority, leastOf, ampleOf, exactOk, exactOf}
-use Rattle.registry_error.specs.Errors.{outOfOrder}
+use Rattle.registry_disposition.specs.Dispositions.{outOfOrder}
 use Rattle.registry_verification.specs.Updated.{survivors, updatedMembers}
 use Rattle.registry_verification.specs.Starred.{All, Says, starred}
 use Rattle.registry_verification.specs.Starred.Case.{oneCutOneAdded}

@@ -9,8 +9,8 @@ use Rattle.events_toad.specs.Toads.{toadOf, exactOf, ampleOf}
 use Rattle.events_toad.specs.declared.toad.ToadResult.the-variants.{Valid, OutOfRange}
 use Rattle.registry_error.specs.Errors.{dispositionOf}
 use Rattle.registry_error.specs.declared.error.RegistryRejection.the-variants.{OutOfOrder}
-use Rattle.registry_error.specs.declared.error.Disposition.the-variants.{Contested, Awaiting}
-use Rattle.registry_error.specs.declared.error.EvidenceKind.the-variants.{PriorEvents}
+use Rattle.registry_disposition.specs.declared.disposition.Disposition.the-variants.{Contested, Awaiting}
+use Rattle.registry_disposition.specs.declared.disposition.EvidenceKind.the-variants.{PriorEvents}
 use Rattle.registry_verification.specs.Updated.{updatedMembers}
 
 -- a statement about every element of a list

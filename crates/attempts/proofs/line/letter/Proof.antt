@@ -1,6 +1,6 @@
 use mathlib.Core.Path.{ap, _∙_}
 use borrow.Author.Needs.{needs}
-use Rattle.registry_error.specs.Errors.{letterOf}
+use Rattle.registry_disposition.specs.Dispositions.{letterOf}
 use Rattle.attempts.proofs.line.letter.Statement.{statement}
 use Rattle.attempts.proofs.line.letter.Tie as tie
 

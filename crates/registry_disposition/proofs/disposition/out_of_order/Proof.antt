@@ -1,8 +1,8 @@
 use mathlib.Core.Path.{sym, _∙_}
 use borrow.Author.Needs.{needs}
-use Rattle.registry_error.specs.Errors.{outOfOrder}
-use Rattle.registry_error.proofs.error.out_of_order.Statement.{statement}
-use Rattle.registry_error.proofs.error.out_of_order.Tie as tie
+use Rattle.registry_disposition.specs.Dispositions.{outOfOrder}
+use Rattle.registry_disposition.proofs.disposition.out_of_order.Statement.{statement}
+use Rattle.registry_disposition.proofs.disposition.out_of_order.Tie as tie
 
 less-requires : tie.Need-less-requires
 less-requires c κs = search needs

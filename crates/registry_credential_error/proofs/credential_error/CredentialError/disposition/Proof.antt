@@ -1,6 +1,6 @@
 use borrow.Author.Needs.{needs}
-use Rattle.registry_error.proofs.error.CredentialError.disposition.Statement.{statement}
-use Rattle.registry_error.proofs.error.CredentialError.disposition.Tie as tie
+use Rattle.registry_credential_error.proofs.credential_error.CredentialError.disposition.Statement.{statement}
+use Rattle.registry_credential_error.proofs.credential_error.CredentialError.disposition.Tie as tie
 
 enum-told : tie.Need-enum-told
 enum-told c = search needs

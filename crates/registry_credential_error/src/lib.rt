@@ -1,0 +1,2 @@
+// The refusals of a credential's status.
+pub mod credential_error;

@@ -1,0 +1,2 @@
+// What the sender of an attempt is to do.
+pub mod disposition;
