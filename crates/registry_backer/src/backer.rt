@@ -108,7 +108,7 @@ pub fn resolved(g: RegistryState, seal: Seal, evidence: u8, management: Registry
     }
 }
 
-// Whether a toad is met by the good signatures of so many backers.
+// Whether a toad is met by the good signatures of so many backers, the first 16 of them.
 pub fn enough_receipts(s: &[u8], signatures: Counted, backers: usize, toad: Toad) -> Answer
     ensures { λ r. ⌜ r ≡ enoughReceipts (toad .0) (min backers 16) (signaturesIn (now (s .entry)) signatures) ⌝ }
 {
@@ -136,7 +136,7 @@ pub fn backed_by(s: &[u8], signatures: Counted, backers: Members, toad: Toad) ->
     )
 }
 
-// The authority that the event's seal and the evidence name, and what it must have signed. BackerAt's state is read from its place in the bytes where it is used. Its list alone is handed on, since a state is copied at every call.
+// The authority that the event's seal and the evidence name, and what it must have signed. BackerAt's state is read from its place in the bytes where it is used. What the authority must have signed is asked of its backers and toad alone, since a state is copied at every call.
 pub fn authenticate_backer(
     s: &[u8],
     signatures: Counted,
