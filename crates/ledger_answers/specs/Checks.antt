@@ -7,10 +7,10 @@ use Rattle.registry_answer.specs.Answers.{acceptIf, firstOf}
 use Rattle.registry_error.specs.declared.error.Answer.{Answer}
 use Rattle.registry_error.specs.declared.error.RegistryRejection.the-variants.{Malformed, MissingRegistry, DuplicateInception, AlreadyIssued, MissingCredentialState, InconsistentRegistry, NoRoom}
 
--- before every fold: 1 of a ledger that breaks a reading rule, then 1 and 10 of an attempt that asks nothing
-unfoldable pub askedAnswer : Bool → ℕ → Answer
-askedAnswer ok refusal =
-    firstOf (acceptIf ok Malformed ∷ acceptIf (not (eqb refusal 1)) Malformed ∷ acceptIf (not (eqb refusal 10)) InconsistentRegistry ∷ [])
+-- before every fold: 1 of a ledger that breaks a reading rule, 1 of bytes that are no attempt, 10 of an attempt that asks nothing
+unfoldable pub askedAnswer : Bool → Bool → ℕ → Answer
+askedAnswer ok read refusal =
+    firstOf (acceptIf ok Malformed ∷ acceptIf read Malformed ∷ acceptIf (not (eqb refusal 10)) InconsistentRegistry ∷ [])
 
 -- vcp: 3, the fold, 29; held is whether the registry is held, the number how many are
 unfoldable pub inceptionAnswer : Bool → Answer → ℕ → Answer

@@ -7,13 +7,13 @@ ghost use mathlib.Core.Path.{_≡_};
 ghost use Rattle.ledger_answers.specs.Checks.{askedAnswer, inceptionAnswer, rotationAnswer, issueAnswer, revocationAnswer};
 
 // What is checked before every fold.
-pub fn asked_answer(ok: bool, refusal: u8) -> Answer
-    ensures { λ r. ⌜ r ≡ askedAnswer ok refusal ⌝ }
+pub fn asked_answer(ok: bool, read: bool, refusal: u8) -> Answer
+    ensures { λ r. ⌜ r ≡ askedAnswer ok read refusal ⌝ }
 {
     let sound = accept_if(ok, RegistryRejection::Malformed);
-    let read = accept_if(!(refusal == 1), RegistryRejection::Malformed);
+    let formed = accept_if(read, RegistryRejection::Malformed);
     let paired = accept_if(!(refusal == 10), RegistryRejection::InconsistentRegistry);
-    or_else(sound, or_else(read, or_else(paired, Answer::Accepted)))
+    or_else(sound, or_else(formed, or_else(paired, Answer::Accepted)))
 }
 
 pub fn inception_answer(held: bool, folded: Answer, registry_count: usize) -> Answer

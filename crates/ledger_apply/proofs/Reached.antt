@@ -21,7 +21,7 @@ use Rattle.ledger_rows.specs.Rows.{rowAt, findAt}
 use Rattle.ledger_registries.specs.Registries.{noHeld, blank, findRegistry}
 use Rattle.ledger_asked.specs.declared.call.Named.{Named}
 use Rattle.ledger_next.specs.declared.call.Next.{Next}
-use Rattle.ledger_asked.specs.Names.{namedOf}
+use Rattle.ledger_asked.specs.Names.{headNamed}
 use Rattle.ledger_next.specs.Effects.{pairNamed, effectNamed, Leaves}
 use Rattle.ledger_next.proofs.Fits.{Fits, effect-fits}
 use Rattle.ledger_next.proofs.Stored.{place-absent}
@@ -41,9 +41,9 @@ same : {a b : Lent} → a .registries ≡ b .registries → a .registryCount ≡
 same e f g h = λ t. record { registries = e t; registryCount = f t; rows = g t; rowCount = h t }
 
 module _ (gs : List RegistryState) (m : ℕ) (ws : List CredentialState) (n : ℕ) (s : List ℕ) where
-  -- what the attempt names, and the places of that
+  -- what the event at the head of the attempt names, and the places of that
   abbrev q : Named
-  q = namedOf (requestOf s)
+  q = headNamed s
 
   abbrev at : ℕ
   at = findRegistry gs m (q .registry)
@@ -84,7 +84,7 @@ module _ (gs : List RegistryState) (m : ℕ) (ws : List CredentialState) (n : �
     unfolding findAt
     settled =
         record
-        { answer = step.answered gs m ws n s g w x c; ledger = step.stepped gs m ws n s g w x c; stored = stores (effect (lentLedger gs m ws n) (requestOf s)) (step.leaves gs m ws n s g w x c) (effect-fits (lentLedger gs m ws n) (requestOf s)); registries-long = length-set gs at (x .registry); rows-long = length-set ws row-at (x .row) }
+        { answer = step.answered gs m ws n s g w x c; ledger = step.stepped gs m ws n s g w x c; stored = stores (effect (lentLedger gs m ws n) (requestOf s)) (step.leaves gs m ws n s g w x c) (effect-fits (lentLedger gs m ws n) s); registries-long = length-set gs at (x .registry); rows-long = length-set ws row-at (x .row) }
 
   pub reached : (ok : Bool) → ok ≡ sound (lentLedger gs m ws n) → (k : Named) → k ≡ q → (i : ℕ) → i ≡ findRegistry gs m (k .registry) → (g : RegistryState) → (i < length gs → g ≡ getD gs i blank) → (j : ℕ) → j ≡ findAt ws n (k .registry) (k .credential) → (w : CredentialState) → w ≡ rowAt ws j → (x : Next) → Leaves (effectNamed ok s k i m g j n w) g m w n x → Done gs m ws n s (set gs i (x .registry)) (set ws j (x .row)) (appliedOf x)
   unfolding findAt

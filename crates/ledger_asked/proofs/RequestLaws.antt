@@ -1,25 +1,63 @@
--- What the decoder's answer asks.
---     request-decoded     an attempt that is read asks what its event asks
---     request-malformed   malformed bytes ask nothing
+-- What an attempt names, by its event alone.
+--     decodes-as     the decoder's struct says whether the bytes are an attempt
+--     event-named    what an event asks is named by the event
+--     named-head     bytes that are an attempt ask what the event at their head names
+--     unread         bytes that are none do not decode
+--     asks-nothing   they ask nothing, and get 1
 use Prim.Native.Nat.{ℕ}
-use mathlib.Core.Path.{_≡_, sym, ap, _∙_}
-use mathlib.Core.Bool.{true, false, cond}
-use mathlib.Core.List.{List}
-use Rattle.events_tel.specs.TelEvents.{viewEvent}
-use Rattle.registry_wire.specs.Attempts.{decodeOf, viewAttempt, viewDecoded}
+use mathlib.Core.Path.{_≡_, refl, sym, ap, _∙_}
+use mathlib.Core.Bool.{Bool, true, false, cond, _&&_, true≢false, false≢true}
+use mathlib.Core.List.{List, [], _∷_}
+use lib.Dec.{eqb}
+use lib.ListN.{length}
+use Rattle.codec_cursor.specs.Readers.{starting}
+use Rattle.events_tel.specs.TelEvents.{Event}
+use Rattle.events_tel.specs.TelEvents.Event.{vcp, vrt, iss, rev, bis, brv}
+use Rattle.registry_wire.specs.Attempts.{Message, Decoded, readMessage, decodeOf, viewAttempt, viewDecoded}
 use Rattle.registry_wire.specs.Attempts.Decoded.{malformed, decoded}
 use Rattle.registry_wire.specs.declared.attempt.DecodedAttempt.{DecodedAttempt}
 use Rattle.registry_error.specs.declared.error.RegistryRejection.the-variants.{Malformed}
-use Rattle.ledger_step.specs.Steps.{eventRequest, decodedRequest, requestOf}
+use Rattle.registry_laws.specs.Pairs.{Pair, pairIn}
+use Rattle.ledger_step.specs.Steps.{revocationOf, eventRequest, decodedRequest, requestOf}
 use Rattle.ledger_step.specs.Steps.Request.{nothing}
+use Rattle.ledger_asked.specs.Names.{namedOf, namedPair, namedEvent, headNamed, isDecoded, decodes}
 
-module _ (s : List ℕ) (r : DecodedAttempt) (e : viewDecoded s r ≡ decodeOf s) where
-  pub request-decoded : r .ok ≡ true → requestOf s ≡ eventRequest (viewEvent s (r .attempt .event)) (viewAttempt s (r .attempt))
-  unfolding requestOf
-  request-decoded ok =
-      ap decodedRequest (sym e) ∙ ap (λ b. decodedRequest (cond b (decoded (viewAttempt s (r .attempt))) malformed)) ok
+pub decodes-as : (s : List ℕ) (r : DecodedAttempt) → viewDecoded s r ≡ decodeOf s → r .ok ≡ decodes s
+unfolding decodes
+decodes-as s r e = go (r .ok) ∙ ap isDecoded e
+  where
+    go : (t : Bool) → t ≡ isDecoded (cond t (decoded (viewAttempt s (r .attempt))) malformed)
+    go true = refl
+    go false = refl
 
-  pub request-malformed : r .ok ≡ false → requestOf s ≡ nothing Malformed
-  unfolding requestOf
-  request-malformed ok =
-      ap decodedRequest (sym e) ∙ ap (λ b. decodedRequest (cond b (decoded (viewAttempt s (r .attempt))) malformed)) ok
+event-named : (e : Event) (m : Message) → namedOf (eventRequest e m) ≡ namedEvent e
+event-named (vcp said issuer toad configs backers) m = refl
+event-named (vrt said registry prior sn toad cuts additions) m = refl
+event-named (iss said credential registry) m = refl
+event-named (rev said credential registry prior) m = refl
+event-named (bis said credential registry seal) m = refl
+event-named (brv said credential prior seal) m = go (pairIn seal credential)
+  where
+    go : (l : List Pair) → namedOf (revocationOf l m) ≡ namedPair l
+    go [] = refl
+    go (k ∷ l) = refl
+
+pub named-head : (s : List ℕ) → decodes s ≡ true → namedOf (requestOf s) ≡ headNamed s
+unfolding requestOf decodes decodeOf headNamed readMessage
+named-head s = go (readMessage s starting .next .ok && eqb (readMessage s starting .next .at) (length s)) (readMessage s starting .value)
+  where
+    go : (t : Bool) (m : Message) → isDecoded (cond t (decoded m) malformed) ≡ true → namedOf (decodedRequest (cond t (decoded m) malformed)) ≡ namedEvent (m .event)
+    go true m h = event-named (m .event) m
+    go false m h = absurd (false≢true h)
+
+pub unread : (s : List ℕ) → decodes s ≡ false → decodeOf s ≡ malformed
+unfolding decodes
+unread s = go (decodeOf s)
+  where
+    go : (d : Decoded) → isDecoded d ≡ false → d ≡ malformed
+    go malformed h = refl
+    go (decoded m) h = absurd (true≢false h)
+
+pub asks-nothing : (s : List ℕ) → decodes s ≡ false → requestOf s ≡ nothing Malformed
+unfolding requestOf
+asks-nothing s h = ap decodedRequest (unread s h)

@@ -1,14 +1,58 @@
 -- What an attempt asks of the ledger, in numbers (docs/RULES.md, "Ledger").
-use Rattle.registry_error.specs.Errors.{numberOf}
+use Prim.Native.Nat.{ℕ}
+use mathlib.Core.Bool.{Bool, true, false}
+use mathlib.Core.List.{List, [], _∷_}
+use Rattle.cesr.specs.declared.primitive.Said.{Said}
+use Rattle.codec_cursor.specs.Readers.{starting}
+use Rattle.codec.specs.Events.{readEvent}
+use Rattle.events_tel.specs.TelEvents.{Event}
+use Rattle.events_tel.specs.TelEvents.Event.{vcp, vrt, iss, rev, bis, brv}
 use Rattle.registry_state.specs.States.{noSaid}
+use Rattle.registry_error.specs.Errors.{numberOf}
+use Rattle.registry_wire.specs.Attempts.{Decoded, decodeOf}
+use Rattle.registry_wire.specs.Attempts.Decoded.{malformed, decoded}
+use Rattle.registry_laws.specs.Pairs.{Pair, pairIn}
 use Rattle.ledger_step.specs.Steps.{Request}
 use Rattle.ledger_step.specs.Steps.Request.{nothing, inception, rotation, issue, revocation}
 use Rattle.ledger_asked.specs.declared.call.Named.{Named}
 
--- the refusal, or the kind of fold and what it is about: a blank said where there is no registry, or no credential
+-- the kind of fold and what it is about: a blank said where there is no credential
+abbrev pub about : ℕ → Said → Said → Named
+about kind registry credential = record { refusal = 0; kind = kind; registry = registry; credential = credential }
+
+-- a refusal, with blank saids
+abbrev pub refused : ℕ → Named
+refused r = record { refusal = r; kind = 0; registry = noSaid; credential = noSaid }
+
+-- what is asked, by the request
 abbrev pub namedOf : Request → Named
-namedOf (nothing r) = record { refusal = numberOf r; kind = 0; registry = noSaid; credential = noSaid }
-namedOf (inception id m) = record { refusal = 0; kind = 1; registry = id; credential = noSaid }
-namedOf (rotation id m) = record { refusal = 0; kind = 2; registry = id; credential = noSaid }
-namedOf (issue k m) = record { refusal = 0; kind = 3; registry = k .registry; credential = k .credential }
-namedOf (revocation k m) = record { refusal = 0; kind = 4; registry = k .registry; credential = k .credential }
+namedOf (nothing r) = refused (numberOf r)
+namedOf (inception id m) = about 1 id noSaid
+namedOf (rotation id m) = about 2 id noSaid
+namedOf (issue k m) = about 3 (k .registry) (k .credential)
+namedOf (revocation k m) = about 4 (k .registry) (k .credential)
+
+-- what is asked, by the event alone; 10: a brv that names no pair
+abbrev pub namedPair : List Pair → Named
+namedPair [] = refused 10
+namedPair (k ∷ l) = about 4 (k .registry) (k .credential)
+
+abbrev pub namedEvent : Event → Named
+namedEvent (vcp said issuer toad configs backers) = about 1 said noSaid
+namedEvent (vrt said registry prior sn toad cuts additions) = about 2 registry noSaid
+namedEvent (iss said credential registry) = about 3 registry credential
+namedEvent (rev said credential registry prior) = about 4 registry credential
+namedEvent (bis said credential registry seal) = about 3 registry credential
+namedEvent (brv said credential prior seal) = namedPair (pairIn seal credential)
+
+-- what the event at the head of the bytes asks, also where they are no attempt
+unfoldable pub headNamed : List ℕ → Named
+headNamed s = namedEvent (readEvent s starting .value)
+
+-- whether the bytes are an attempt
+abbrev pub isDecoded : Decoded → Bool
+isDecoded malformed = false
+isDecoded (decoded m) = true
+
+unfoldable pub decodes : List ℕ → Bool
+decodes s = isDecoded (decodeOf s)

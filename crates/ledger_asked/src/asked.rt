@@ -2,30 +2,27 @@
 use crate::call::Named;
 use cesr::primitive::Matter;
 use cesr::primitive::Said;
+use codec_cursor::cursor::Cursor;
+use codec_tel::tel::read_event;
 use events::identifier::Identifier;
 use events::seal::Seal;
 use events_tel::tel::Kind;
 use events_tel::tel::TelEvent;
-use registry_error::error::RegistryRejection;
 use registry_wire::attempt::Attempt;
 ghost use Prim.Native.Nat.{ℕ};
 ghost use mathlib.Core.Path.{_≡_};
-ghost use mathlib.Core.List.{List};
+ghost use mathlib.Core.List.{List, []};
 ghost use Rattle.events_tel.specs.TelEvents.{viewEvent};
-ghost use Rattle.registry_wire.specs.Attempts.{Message};
 ghost use Rattle.registry_laws.specs.Pairs.{pairUnder, pairIn};
-ghost use Rattle.ledger_step.specs.Steps.{revocationOf, eventRequest, requestOf};
-ghost use Rattle.ledger_step.specs.Steps.Request.{nothing};
-ghost use Rattle.ledger_asked.specs.Names.{namedOf};
+ghost use Rattle.ledger_asked.specs.Names.{about, namedPair, namedEvent, headNamed, decodes};
 
-// An attempt that asks nothing gets a refusal.
-fn asks_nothing(refusal: RegistryRejection) -> Named
-    ensures { λ r. ⌜ r ≡ namedOf (nothing refusal) ⌝ }
+// A brv that names no pair gets 10.
+fn unpaired() -> Named
+    ensures { λ r. ⌜ r ≡ namedPair [] ⌝ }
 {
     let none = Said(Matter::none());
-    let number = refusal.number();
     Named {
-        refusal: number,
+        refusal: 10,
         kind: 0,
         registry: none,
         credential: none,
@@ -34,10 +31,10 @@ fn asks_nothing(refusal: RegistryRejection) -> Named
 
 // A brv's registry is the said in its own seal.
 fn named_under(i: Identifier, credential: Said) -> Named
-    ensures { λ r. ⌜ ((m : Message) → r ≡ namedOf (revocationOf (pairUnder i credential) m)) ⌝ }
+    ensures { λ r. ⌜ r ≡ namedPair (pairUnder i credential) ⌝ }
 {
     match i {
-        Identifier::Basic(_) => asks_nothing(RegistryRejection::InconsistentRegistry),
+        Identifier::Basic(_) => unpaired(),
         Identifier::SelfAddressing(registry) => Named {
             refusal: 0,
             kind: 4,
@@ -48,9 +45,9 @@ fn named_under(i: Identifier, credential: Said) -> Named
 }
 
 fn named_in(seal: Seal, credential: Said) -> Named
-    ensures { λ r. ⌜ ((m : Message) → r ≡ namedOf (revocationOf (pairIn seal credential) m)) ⌝ }
+    ensures { λ r. ⌜ r ≡ namedPair (pairIn seal credential) ⌝ }
 {
-    let none = asks_nothing(RegistryRejection::InconsistentRegistry);
+    let none = unpaired();
     match seal {
         Seal::Digest => none,
         Seal::Root => none,
@@ -64,7 +61,7 @@ fn named_in(seal: Seal, credential: Said) -> Named
 }
 
 fn about(kind: u8, registry: Said, credential: Said) -> Named
-    ensures { λ r. ⌜ r ≡ record { refusal = 0; kind = kind; registry = registry; credential = credential } ⌝ }
+    ensures { λ r. ⌜ r ≡ about kind registry credential ⌝ }
 {
     Named {
         refusal: 0,
@@ -75,7 +72,7 @@ fn about(kind: u8, registry: Said, credential: Said) -> Named
 }
 
 fn named_event(e: TelEvent) -> Named
-    ensures { λ r. ⌜ ((s : List ℕ) (m : Message) → r ≡ namedOf (eventRequest (viewEvent s e) m)) ⌝ }
+    ensures { λ r. ⌜ ((s : List ℕ) → r ≡ namedEvent (viewEvent s e)) ⌝ }
 {
     let none = Said(Matter::none());
     let seal = e.seal;
@@ -90,13 +87,18 @@ fn named_event(e: TelEvent) -> Named
     }
 }
 
-// What an attempt asks, with the registry or the pair that it names.
+// What the event at the head of the bytes names. What stands behind it is not looked at, so these may be bytes that are no attempt.
 pub fn named(s: &[u8]) -> Named
-    ensures { λ r. ⌜ r ≡ namedOf (requestOf (now (s .entry))) ⌝ }
+    ensures { λ r. ⌜ r ≡ headNamed (now (s .entry)) ⌝ }
+{
+    let e = read_event(Cursor::start(), s);
+    named_event(e.value)
+}
+
+// Whether the bytes are an attempt.
+pub fn decodes(s: &[u8]) -> bool
+    ensures { λ r. ⌜ r ≡ decodes (now (s .entry)) ⌝ }
 {
     let d = Attempt::decode(s);
-    if d.ok {
-        return named_event(d.attempt.event);
-    }
-    asks_nothing(RegistryRejection::Malformed)
+    d.ok
 }

@@ -1,7 +1,7 @@
 // What an attempt asks, as it is handed on.
 use cesr::primitive::Said;
 
-// 0 or a refusal's number; 1 a vcp, 2 a vrt, 3 an iss or bis, 4 a rev or brv, or 0 after a refusal; and the registry and the credential that it is about, blank where it names none.
+// 0, or 10 of a brv that names no pair; 1 a vcp, 2 a vrt, 3 an iss or bis, 4 a rev or brv, or 0 after a refusal; and the registry and the credential that it is about, blank where it names none.
 pub struct Named {
     pub refusal: u8,
     pub kind: u8,

@@ -1,3 +1,3 @@
-// What an attempt asks of the ledger, and the order of the checks around each fold (docs/RULES.md, "Ledger", "Orders").
+// What an attempt asks of the ledger (docs/RULES.md, "Ledger").
 pub mod asked;
 pub mod call;

@@ -2,8 +2,8 @@
 --     Found          what the searches found of a ledger, for what is named
 --     named-effect   the law
 use Prim.Native.Nat.{ℕ}
-use mathlib.Core.Path.{_≡_, refl, ap, _∙_}
-use mathlib.Core.Bool.{Bool, true, false, cond}
+use mathlib.Core.Path.{_≡_, refl, sym, ap, subst, _∙_}
+use mathlib.Core.Bool.{Bool, true, false, cond, false≢true}
 use mathlib.Core.Option.{Option, none, some}
 use mathlib.Core.List.{List, [], _∷_}
 use lib.Dec.{ltb}
@@ -33,13 +33,14 @@ use Rattle.ledger_step.specs.Steps.Effect.{refuse, newRegistry, setRegistry, ne
 use Rattle.ledger_step.proofs.TableLaws.{all-find}
 use Rattle.ledger_step.proofs.Rules.{Keeps, parts}
 use Rattle.ledger_asked.specs.declared.call.Named.{Named}
-use Rattle.ledger_asked.specs.Names.{namedOf}
+use Rattle.ledger_asked.specs.Names.{namedOf, headNamed, isDecoded, decodes}
+use Rattle.ledger_asked.proofs.RequestLaws.{named-head, asks-nothing}
 use Rattle.ledger_answers.specs.Checks.{askedAnswer, inceptionAnswer, rotationAnswer, issueAnswer, revocationAnswer}
 use Rattle.ledger_next.specs.Effects.{inceptionNamed, rotationNamed, issueNamed, revocationNamed, pairNamed, kindEffect, effectNamed}
 
 -- ---- a request that was read: the refusal is one of those that are checked before every fold, or the message is the one that was read
 abbrev ReadFrom : List ℕ → Request → Type 0
-ReadFrom s (nothing r) = askedAnswer true (numberOf r) ≡ Rejected r
+ReadFrom s (nothing r) = askedAnswer true true (numberOf r) ≡ Rejected r
 ReadFrom s (inception id m) = decodeOf s ≡ decoded m
 ReadFrom s (rotation id m) = decodeOf s ≡ decoded m
 ReadFrom s (issue k m) = decodeOf s ≡ decoded m
@@ -58,13 +59,13 @@ event-from s (brv said credential prior seal) m q = go (pairIn seal credential)
     go [] = refl
     go (k ∷ l) = q
 
-request-from : (s : List ℕ) → ReadFrom s (requestOf s)
-unfolding requestOf askedAnswer firstOf acceptIf
-request-from s = go (decodeOf s) refl
+request-from : (s : List ℕ) → decodes s ≡ true → ReadFrom s (requestOf s)
+unfolding requestOf decodes
+request-from s h = go (decodeOf s) refl h
   where
-    go : (d : Decoded) → decodeOf s ≡ d → ReadFrom s (decodedRequest d)
-    go malformed e = refl
-    go (decoded m) e = event-from s (m .event) m e
+    go : (d : Decoded) → decodeOf s ≡ d → isDecoded d ≡ true → ReadFrom s (decodedRequest d)
+    go malformed e t = absurd (false≢true t)
+    go (decoded m) e t = event-from s (m .event) m e
 
 -- ---- the folds, of a message that was read and of states that keep to their layouts
 module _ (s : List ℕ) (m : Message) (e : decodeOf s ≡ decoded m) where
@@ -143,23 +144,30 @@ module _ (l : Ledger) (k : Keeps l) (i j : ℕ) (g : RegistryState) (w : Credent
   well-listed : (p : Pair) → rowAt l p ≡ foundAt j (l .rowCount) w → ltb j (l .rowCount) ≡ true → wellCredential w ≡ true
   well-listed p e h = all-find keyOf eqPair wellCredential p (l .rows) w (k .row-layouts) (e ∙ rw h)
 
-  kind-is : (s : List ℕ) (q : Request) → ReadFrom s q → Found l (namedOf q) i g j w → effectNamed true s (namedOf q) i (l .registryCount) g j (l .rowCount) w ≡ effectOf l q
+  kind-is : (s : List ℕ) → decodes s ≡ true → (q : Request) → ReadFrom s q → Found l (namedOf q) i g j w → effectNamed true s (namedOf q) i (l .registryCount) g j (l .rowCount) w ≡ effectOf l q
   unfolding effectNamed kindEffect askedAnswer firstOf acceptIf
-  kind-is s (nothing r) e f = rw e
-  kind-is s (inception id m) e f = rw (f .registry) (inception-is s g w m (l .registryCount) e (ltb i (l .registryCount)))
-  kind-is s (rotation id m) e f = rw (f .registry) (rotation-is s g w id m e (ltb i (l .registryCount)) (well-held id (f .registry)))
-  kind-is s (issue p m) e f =
-      rw (f .registry, f .row) (issue-is s g w m (l .rowCount) e (ltb i (l .registryCount)) (ltb j (l .rowCount)) (well-held (p .registry) (f .registry)))
-  kind-is s (revocation p m) e f =
-      rw (f .registry, f .row)
+  kind-is s h (nothing r) e f = rw (h, e)
+  kind-is s h (inception id m) e f = rw (h, f .registry) (inception-is s g w m (l .registryCount) e (ltb i (l .registryCount)))
+  kind-is s h (rotation id m) e f = rw (h, f .registry) (rotation-is s g w id m e (ltb i (l .registryCount)) (well-held id (f .registry)))
+  kind-is s h (issue p m) e f =
+      rw (h, f .registry, f .row) (issue-is s g w m (l .rowCount) e (ltb i (l .registryCount)) (ltb j (l .rowCount)) (well-held (p .registry) (f .registry)))
+  kind-is s h (revocation p m) e f =
+      rw (h, f .registry, f .row)
       (revocation-is s g w p m e (ltb i (l .registryCount)) (ltb j (l .rowCount)) (well-held (p .registry) (f .registry)) (well-listed p (f .row)))
 
--- From what it names and what the searches found for that, an attempt comes to what it comes to in the ledger. Of a ledger that breaks a reading rule
--- nothing need be found.
-pub named-effect : (l : Ledger) (s : List ℕ) (i j : ℕ) (g : RegistryState) (w : CredentialState) → (sound l ≡ true → Found l (namedOf (requestOf s)) i g j w) → effectNamed (sound l) s (namedOf (requestOf s)) i (l .registryCount) g j (l .rowCount) w ≡ effect l (requestOf s)
+-- From what the event at its head names and what the searches found for that, an attempt comes to what it comes to in the ledger. Of a ledger that
+-- breaks a reading rule nothing need be found.
+pub named-effect : (l : Ledger) (s : List ℕ) (i j : ℕ) (g : RegistryState) (w : CredentialState) → (sound l ≡ true → Found l (headNamed s) i g j w) → effectNamed (sound l) s (headNamed s) i (l .registryCount) g j (l .rowCount) w ≡ effect l (requestOf s)
 unfolding effect effectNamed askedAnswer firstOf acceptIf
 named-effect l s i j g w f = go (sound l) refl
   where
-    go : (t : Bool) → sound l ≡ t → effectNamed t s (namedOf (requestOf s)) i (l .registryCount) g j (l .rowCount) w ≡ cond t (effectOf l (requestOf s)) (refuse Malformed)
-    go true h = kind-is l (parts l h) i j g w s (requestOf s) (request-from s) (f h)
+    read : (t : Bool) → decodes s ≡ t → Keeps l → Found l (headNamed s) i g j w → effectNamed true s (headNamed s) i (l .registryCount) g j (l .rowCount) w ≡ effectOf l (requestOf s)
+    read true h k found =
+        let e = named-head s h in
+        ap (λ (q : Named). effectNamed true s q i (l .registryCount) g j (l .rowCount) w) (sym e)
+        ∙ kind-is l k i j g w s h (requestOf s) (request-from s h) (subst (λ (q : Named). Found l q i g j w) (sym e) found)
+    read false h k found = rw (h, asks-nothing s h)
+
+    go : (t : Bool) → sound l ≡ t → effectNamed t s (headNamed s) i (l .registryCount) g j (l .rowCount) w ≡ cond t (effectOf l (requestOf s)) (refuse Malformed)
+    go true h = read (decodes s) refl (parts l h) (f h)
     go false h = refl

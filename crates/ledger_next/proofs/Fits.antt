@@ -1,9 +1,10 @@
 -- Where the changes of an attempt go.
 --     Fits, effect-fits   a replacement is of what is named; what is new was not found, and there is room for it in the lent slices
 use Prim.Native.Nat.{ℕ, _<_}
-use mathlib.Core.Path.{_≡_, refl}
+use mathlib.Core.Path.{_≡_, refl, sym, subst}
 use mathlib.Core.Bool.{Bool, true, false, cond}
 use mathlib.Core.Option.{Option, none, some}
+use mathlib.Core.List.{List}
 use native.Mathlib.Omega.{arith}
 use borrow.Author.Tests.{ltb-true, eqb-true}
 use lib.Dec.{ltb}
@@ -19,12 +20,13 @@ use Rattle.registry_issue.specs.IssueFolds as I
 use Rattle.registry_credential_state.specs.CredentialFolds as C
 use Rattle.registry_laws.specs.Pairs.{Pair}
 use Rattle.ledger_step.specs.Ledgers.{Held, Ledger, registryAt, rowAt, sound}
-use Rattle.ledger_step.specs.Steps.{Request, Effect, afterFold, withRoom, inceptionEffect, rotationEffect, issueEffect, revocationEffect, effectOf, effect}
+use Rattle.ledger_step.specs.Steps.{Request, requestOf, Effect, afterFold, withRoom, inceptionEffect, rotationEffect, issueEffect, revocationEffect, effectOf, effect}
 use Rattle.ledger_step.specs.Steps.Request.{nothing, inception, rotation, issue, revocation}
 use Rattle.ledger_step.specs.Steps.Effect.{refuse, newRegistry, setRegistry, newRow, setRow}
 use Rattle.ledger_step.proofs.Rules.{Keeps, parts}
 use Rattle.ledger_asked.specs.declared.call.Named.{Named}
-use Rattle.ledger_asked.specs.Names.{namedOf}
+use Rattle.ledger_asked.specs.Names.{namedOf, headNamed, decodes}
+use Rattle.ledger_asked.proofs.RequestLaws.{named-head, asks-nothing}
 use Rattle.ledger_next.specs.Effects.{pairNamed}
 
 abbrev pub Fits : Ledger → Named → Effect → Type 0
@@ -82,10 +84,15 @@ module _ (l : Ledger) (k : Keeps l) where
   request-fits (issue p m) = issue-fits p m (registryAt l (p .registry)) (rowAt l p) refl
   request-fits (revocation p m) = revocation-fits p m (registryAt l (p .registry)) (rowAt l p)
 
-pub effect-fits : (l : Ledger) (q : Request) → Fits l (namedOf q) (effect l q)
+-- what bytes come to is so for what the event at their head names, also where they are no attempt
+pub effect-fits : (l : Ledger) (s : List ℕ) → Fits l (headNamed s) (effect l (requestOf s))
 unfolding effect
-effect-fits l q = go (sound l) refl
+effect-fits l s = go (sound l) refl
   where
-    go : (t : Bool) → sound l ≡ t → Fits l (namedOf q) (cond t (effectOf l q) (refuse Malformed))
-    go true h = request-fits l (parts l h) q
+    read : (t : Bool) → decodes s ≡ t → Keeps l → Fits l (headNamed s) (effectOf l (requestOf s))
+    read true h k = subst (λ (q : Named). Fits l q (effectOf l (requestOf s))) (named-head s h) (request-fits l k (requestOf s))
+    read false h k = subst (λ (r : Request). Fits l (headNamed s) (effectOf l r)) (sym (asks-nothing s h)) tt
+
+    go : (t : Bool) → sound l ≡ t → Fits l (headNamed s) (cond t (effectOf l (requestOf s)) (refuse Malformed))
+    go true h = read (decodes s) refl (parts l h)
     go false h = tt

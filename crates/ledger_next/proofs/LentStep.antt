@@ -30,7 +30,7 @@ use Rattle.ledger_registries.specs.Registries.{noHeld, blank, findRegistry}
 use Rattle.ledger_registries.proofs.RegistryViews.{found-registry, stored-registry}
 use Rattle.ledger_asked.specs.declared.call.Named.{Named}
 use Rattle.ledger_next.specs.declared.call.Next.{Next}
-use Rattle.ledger_asked.specs.Names.{namedOf}
+use Rattle.ledger_asked.specs.Names.{headNamed}
 use Rattle.ledger_next.specs.Effects.{pairNamed, effectNamed, Leaves}
 use Rattle.ledger_next.proofs.EffectLaws.{Found, foundAt, named-effect}
 use Rattle.ledger_next.proofs.Fits.{Fits, effect-fits}
@@ -63,9 +63,9 @@ module _ (gs : List RegistryState) (m : ℕ) (ws : List CredentialState) (n : �
   abbrev l : Ledger
   l = lentLedger gs m ws n
 
-  -- what the attempt names, and the places of that
+  -- what the event at the head of the attempt names, and the places of that
   abbrev q : Named
-  q = namedOf (requestOf s)
+  q = headNamed s
 
   abbrev pub registryPlace : ℕ
   registryPlace = findRegistry gs m (q .registry)
@@ -179,4 +179,4 @@ module _ (gs : List RegistryState) (m : ℕ) (ws : List CredentialState) (n : �
 
     pub stepped : lentLedger gs′ (x .«registry_count») ws′ (x .«row_count») ≡ stepOf l s .ledger
     unfolding stepOf
-    stepped = change e leaves (effect-fits l (requestOf s))
+    stepped = change e leaves (effect-fits l s)

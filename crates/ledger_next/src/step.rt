@@ -1,5 +1,7 @@
 // What an attempt leaves of the registry and the row that it names (docs/RULES.md, "Ledger", "Next states"). Each function hands back what was handed in, but for the one state that an accepted attempt changes.
 use crate::call::Next;
+use crate::reading::asked_without_fold;
+use crate::reading::behind_reading;
 use ledger_answers::answers::asked_answer;
 use ledger_answers::answers::inception_answer;
 use ledger_answers::answers::issue_answer;
@@ -18,7 +20,7 @@ ghost use mathlib.Core.Path.{_≡_};
 ghost use lib.Dec.{ltb};
 ghost use Rattle.cesr.specs.declared.primitive.Said.{Said};
 ghost use Rattle.registry_laws.specs.Pairs.{Pair};
-ghost use Rattle.ledger_next.specs.Effects.{inceptionNamed, rotationNamed, issueNamed, revocationNamed, kindEffect, effectNamed, Leaves};
+ghost use Rattle.ledger_next.specs.Effects.{ifRead, inceptionNamed, rotationNamed, issueNamed, revocationNamed, kindEffect, effectNamed, Leaves};
 
 // Whether a place is before the count.
 fn is_below(at: usize, count: usize) -> bool
@@ -55,12 +57,13 @@ fn incept_next(
     row: CredentialState,
     row_count: usize,
 ) -> Next
-    ensures { λ r. ⌜ Leaves (inceptionNamed (now (s .entry)) held «registry_count») registry «registry_count» row «row_count» r ⌝ }
+    ensures { λ r. ⌜ Leaves (ifRead (now (s .entry)) (inceptionNamed (now (s .entry)) held «registry_count»)) registry «registry_count» row «row_count» r ⌝ }
 {
     let fold = incept_with_evidence(s);
     let folded = fold.answer;
     let state = fold.state;
-    let inception = inception_answer(held, folded, registry_count);
+    let checked = inception_answer(held, folded, registry_count);
+    let inception = behind_reading(s, folded, checked);
     if accepts(inception) {
         return Next {
             answer: inception,
@@ -82,12 +85,13 @@ fn rotate_next(
     row: CredentialState,
     row_count: usize,
 ) -> Next
-    ensures { λ r. ⌜ ((id : Said) → Leaves (rotationNamed (now (s .entry)) id held registry) registry «registry_count» row «row_count» r) ⌝ }
+    ensures { λ r. ⌜ ((id : Said) → Leaves (ifRead (now (s .entry)) (rotationNamed (now (s .entry)) id held registry)) registry «registry_count» row «row_count» r) ⌝ }
 {
     let fold = ingest_registry(registry, s);
     let folded = fold.answer;
     let state = fold.state;
-    let rotation = rotation_answer(held, folded);
+    let checked = rotation_answer(held, folded);
+    let rotation = behind_reading(s, folded, checked);
     if accepts(rotation) {
         return Next {
             answer: rotation,
@@ -110,12 +114,13 @@ fn issue_next(
     row: CredentialState,
     row_count: usize,
 ) -> Next
-    ensures { λ r. ⌜ Leaves (issueNamed (now (s .entry)) held registry listed «row_count») registry «registry_count» row «row_count» r ⌝ }
+    ensures { λ r. ⌜ Leaves (ifRead (now (s .entry)) (issueNamed (now (s .entry)) held registry listed «row_count»)) registry «registry_count» row «row_count» r ⌝ }
 {
     let fold = incept_credential(registry, s);
     let folded = fold.answer;
     let state = fold.state;
-    let issue = issue_answer(held, listed, folded, row_count);
+    let checked = issue_answer(held, listed, folded, row_count);
+    let issue = behind_reading(s, folded, checked);
     if accepts(issue) {
         return Next {
             answer: issue,
@@ -138,12 +143,13 @@ fn revoke_next(
     row: CredentialState,
     row_count: usize,
 ) -> Next
-    ensures { λ r. ⌜ ((k : Pair) → Leaves (revocationNamed (now (s .entry)) k held registry listed row) registry «registry_count» row «row_count» r) ⌝ }
+    ensures { λ r. ⌜ ((k : Pair) → Leaves (ifRead (now (s .entry)) (revocationNamed (now (s .entry)) k held registry listed row)) registry «registry_count» row «row_count» r) ⌝ }
 {
     let fold = ingest_credential(registry, row, s);
     let folded = fold.answer;
     let state = fold.state;
-    let revocation = revocation_answer(held, listed, folded);
+    let checked = revocation_answer(held, listed, folded);
+    let revocation = behind_reading(s, folded, checked);
     if accepts(revocation) {
         return Next {
             answer: revocation,
@@ -167,7 +173,7 @@ fn kind_next(
     row_count: usize,
     row: CredentialState,
 ) -> Next
-    ensures { λ r. ⌜ Leaves (kindEffect (now (s .entry)) named «registry_at» «registry_count» registry «row_at» «row_count» row) registry «registry_count» row «row_count» r ⌝ }
+    ensures { λ r. ⌜ Leaves (ifRead (now (s .entry)) (kindEffect (now (s .entry)) named «registry_at» «registry_count» registry «row_at» «row_count» row)) registry «registry_count» row «row_count» r ⌝ }
 {
     let held = is_below(registry_at, registry_count);
     let listed = is_below(row_at, row_count);
@@ -198,8 +204,8 @@ pub fn next(
 ) -> Next
     ensures { λ r. ⌜ Leaves (effectNamed ok (now (s .entry)) named «registry_at» «registry_count» registry «row_at» «row_count» row) registry «registry_count» row «row_count» r ⌝ }
 {
-    let asked = asked_answer(ok, named.refusal);
-    if accepts(asked) {
+    let refusal = named.refusal;
+    if accepts(asked_answer(ok, true, refusal)) {
         return kind_next(
             s,
             named,
@@ -211,5 +217,6 @@ pub fn next(
             row,
         );
     }
+    let asked = asked_without_fold(ok, s, refusal);
     kept(asked, registry, registry_count, row, row_count)
 }

@@ -55,7 +55,7 @@ use Rattle.ledger_rows.specs.Rows.{rowAt, findAt}
 use Rattle.ledger_registries.specs.Registries.{noHeld, blank, findRegistry}
 use Rattle.ledger_asked.specs.declared.call.Named.{Named}
 use Rattle.ledger_next.specs.declared.call.Next.{Next}
-use Rattle.ledger_asked.specs.Names.{namedOf}
+use Rattle.ledger_asked.specs.Names.{headNamed}
 use Rattle.ledger_next.specs.Effects.{effectNamed, Leaves}
 use Rattle.ledger_apply.specs.declared.apply.Applied.{Applied}
 use Rattle.ledger_apply.specs.Applies.{appliedOf, lent, Stores}
@@ -316,8 +316,8 @@ module _ {M : Type 1} (𝓤 : URA M) (H : Heap 𝓤) (A : Atoms 𝓤) (W : Given
   goes-ask =
       qed W (‵ (flft κ″ q″) ∷ ‵ Own ∷ []) ∵ nothing ! $ move ! (1 ∷ 0 ∷ []) $ join ! $ nothing ! $ move ! (2 ∷ 0 ∷ []) $ fjoin ! $ move ! (1 ∷ 0 ∷ []) $ join ! $ nothing ! $ move ! (1 ∷ 0 ∷ []) $ frame ! $ done !
 
-  said-ask : (r : Named) → ent 𝓤 (ensured 𝓤 H A ask.ended (ask.clauses 𝓤 H A mem run) (κ″, tt) arg-ask tt r) (fact 𝓤 (r ≡ namedOf (requestOf s)))
-  said-ask r = exE 𝓤 _ (λ ls. snd∗ 𝓤 (sem 𝓤 H A (lasts ask.ended (κ″, tt) arg-ask ls)) (fact 𝓤 (r ≡ namedOf (requestOf s))))
+  said-ask : (r : Named) → ent 𝓤 (ensured 𝓤 H A ask.ended (ask.clauses 𝓤 H A mem run) (κ″, tt) arg-ask tt r) (fact 𝓤 (r ≡ headNamed s))
+  said-ask r = exE 𝓤 _ (λ ls. snd∗ 𝓤 (sem 𝓤 H A (lasts ask.ended (κ″, tt) arg-ask ls)) (fact 𝓤 (r ≡ headNamed s)))
 
   -- ---- the call of `find_registry`
   abbrev arg-seek : Named → GName → RefT (List RegistryState) × (ℕ × (Said × Unit {0}))
@@ -452,7 +452,7 @@ module _ {M : Type 1} (𝓤 : URA M) (H : Heap 𝓤) (A : Atoms 𝓤) (W : Given
           move t (5 ∷ 3 ∷ 4 ∷ 2 ∷ 0 ∷ 1 ∷ []) $
           after r e u is)))))))
 
-      calls-ask : K → Opds K W (raw (Names 𝓤 H A mem run .pre to-ask) ∷ ‵ Own ∷ Γ) E xs (Names 𝓤 H A mem run .args to-ask) → ((r : Named) → r ≡ namedOf (requestOf s) → (u : Val) → Is N.the-row r (u ∷ []) → Seq K W (‵ (flft κ″ q″) ∷ ‵ Own ∷ Γ) (lands C Λ E d u rest p)) → Seq K W (‵ (flft κ″ q″) ∷ ‵ Own ∷ Γ) (runs C Λ E (seq (call #ask xs d) rest) p)
+      calls-ask : K → Opds K W (raw (Names 𝓤 H A mem run .pre to-ask) ∷ ‵ Own ∷ Γ) E xs (Names 𝓤 H A mem run .args to-ask) → ((r : Named) → r ≡ headNamed s → (u : Val) → Is N.the-row r (u ∷ []) → Seq K W (‵ (flft κ″ q″) ∷ ‵ Own ∷ Γ) (lands C Λ E d u rest p)) → Seq K W (‵ (flft κ″ q″) ∷ ‵ Own ∷ Γ) (runs C Λ E (seq (call #ask xs d) rest) p)
       calls-ask t os after =
           move t (1 ∷ []) $
           use1 W (‵ Own ⊛ ‵ Own) (shr-slice-copy 𝓤 H A W (named 2) κ″ u8 .twice bytes (val-s ∷ [])) $ split t $
@@ -460,7 +460,7 @@ module _ {M : Type 1} (𝓤 : URA M) (H : Heap 𝓤) (A : Atoms 𝓤) (W : Given
           use2 W (raw (Names 𝓤 H A mem run .pre to-ask)) goes-ask $
           calls-at t fm (Names 𝓤 H A mem run) known-ask to-ask os (λ u.
           use1 W (later (some (λ (r : Named). ((‵ (flft κ″ q″) ⊛ ‵ ftrue) ⊛ ‵ (N.the-row .own r (u ∷ []))) ⊛ raw (ensured 𝓤 H A ask.ended (ask.clauses 𝓤 H A mem run) (κ″, tt) arg-ask tt r)))) (id⊢ 𝓤 _) $ await t tt $ pick t (λ r.
-          split t $ move t (1 ∷ []) $ use1 W (raw (fact 𝓤 (r ≡ namedOf (requestOf s)))) (said-ask r) $ heard t (r ≡ namedOf (requestOf s)) (λ e. split t $
+          split t $ move t (1 ∷ []) $ use1 W (raw (fact 𝓤 (r ≡ headNamed s))) (said-ask r) $ heard t (r ≡ headNamed s) (λ e. split t $
           move t (1 ∷ []) $
           facts t N.the-row (Is N.the-row) (shows 𝓤 H A N.the-row) r (u ∷ []) (λ is.
           split t $
@@ -651,7 +651,7 @@ module _ {M : Type 1} (𝓤 : URA M) (H : Heap 𝓤) (A : Atoms 𝓤) (W : Given
           keeps i f-i j f-j y d is-x)
 
       -- from the call of `next` on
-      steps : (ok : Bool) → (e-ok : ok ≡ sound l) → (k : Named) → (e-k : k ≡ namedOf (requestOf s)) → (is-k : IsNamed k) → (i : ℕ) → (e-i : i ≡ findRegistry gs m (k .registry)) → (f-i : i < 2 ^ 64) → (g : RegistryState) → (e-g : (i < length gs → g ≡ getD gs i blank)) → (is-g : IsRegistry g) → (j : ℕ) → (e-j : j ≡ findAt ws n (k .registry) (k .credential)) → (f-j : j < 2 ^ 64) → (w : CredentialState) → (e-w : w ≡ rowAt ws j) → (is-w : IsRow w) → Sq W (‵ (ObsG gs) ∷ ‵ (BorG gs) ∷ ‵ (flft κ q) ∷ ‵ (ObsW ws) ∷ ‵ (BorW ws) ∷ ‵ (flft κ′ q′) ∷ ‵ (flft κ″ q″) ∷ ‵ Own ∷ ‵ (froom (sliceTy mref-w) l₂₉ 0) ∷ ‵ (fdies (sliceTy mref-w) l₂₉) ∷ ‵ (froom mref-w l₂₈ 0) ∷ ‵ (fdies mref-w l₂₈) ∷ ‵ (froom (sliceTy mref-g) l₂₇ 0) ∷ ‵ (fdies (sliceTy mref-g) l₂₇) ∷ ‵ (froom mref-g l₂₆ 0) ∷ ‵ (fdies mref-g l₂₆) ∷ ‵ (froom tyUnit l₂₅ 0) ∷ ‵ (fdies tyUnit l₂₅) ∷ ‵ (froom (sliceTy sref-w) l₂₄ 0) ∷ ‵ (fdies (sliceTy sref-w) l₂₄) ∷ ‵ (froom sref-w l₂₃ 0) ∷ ‵ (fdies sref-w l₂₃) ∷ ‵ (froom (sliceTy sref-w) l₂₂ 0) ∷ ‵ (fdies (sliceTy sref-w) l₂₂) ∷ ‵ (froom sref-w l₂₁ 0) ∷ ‵ (fdies sref-w l₂₁) ∷ ‵ (froom (sliceTy sref-g) l₂₀ 0) ∷ ‵ (fdies (sliceTy sref-g) l₂₀) ∷ ‵ (froom sref-g l₁₉ 0) ∷ ‵ (fdies sref-g l₁₉) ∷ ‵ (froom (sliceTy sref-g) l₁₈ 0) ∷ ‵ (fdies (sliceTy sref-g) l₁₈) ∷ ‵ (froom sref-g l₁₇ 0) ∷ ‵ (fdies sref-g l₁₇) ∷ ‵ (froom (sliceTy sref-w) l₁₆ 0) ∷ ‵ (fdies (sliceTy sref-w) l₁₆) ∷ ‵ (froom sref-w l₁₅ 0) ∷ ‵ (fdies sref-w l₁₅) ∷ ‵ (froom (sliceTy sref-g) l₁₄ 0) ∷ ‵ (fdies (sliceTy sref-g) l₁₄) ∷ ‵ (froom sref-g l₁₃ 0) ∷ ‵ (fdies sref-g l₁₃) ∷ ‵ (froom X′.mir l₁₂ 0) ∷ ‵ (fdies X′.mir l₁₂) ∷ ‵ (fat fullShare T′.mir l₁₁ 0 (T′.lowered w)) ∷ ‵ (fdies T′.mir l₁₁) ∷ ‵ (fat fullShare word l₁₀ 0 (vint w64 j)) ∷ ‵ (fdies word l₁₀) ∷ ‵ (fat fullShare G′.mir l₉ 0 (LL.val G.the-type G′.the-laws g)) ∷ ‵ (fdies G′.mir l₉) ∷ ‵ (fat fullShare word l₈ 0 (vint w64 i)) ∷ ‵ (fdies word l₈) ∷ ‵ (fat fullShare N′.mir l₇ 0 (N′.lowered k)) ∷ ‵ (fdies N′.mir l₇) ∷ ‵ (fat fullShare tyBool l₆ 0 (vbool ok)) ∷ ‵ (fdies tyBool l₆) ∷ ‵ (fat fullShare slice-s l₅ 0 (val-s)) ∷ ‵ (fdies slice-s l₅) ∷ ‵ (fat fullShare word l₄ 0 (vint w64 n)) ∷ ‵ (fdies word l₄) ∷ ‵ (fat fullShare slice-w l₃ 0 (val-w)) ∷ ‵ (fdies slice-w l₃) ∷ ‵ (fat fullShare word l₂ 0 (vint w64 m)) ∷ ‵ (fdies word l₂) ∷ ‵ (fat fullShare slice-g l₁ 0 (val-g)) ∷ ‵ (fdies slice-g l₁) ∷ ‵ (froom A′.mir l₀ 0) ∷ ‵ (fdies A′.mir l₀) ∷ []) (runs C Λ En mirᶠ.t-19 (atRet En Post))
+      steps : (ok : Bool) → (e-ok : ok ≡ sound l) → (k : Named) → (e-k : k ≡ headNamed s) → (is-k : IsNamed k) → (i : ℕ) → (e-i : i ≡ findRegistry gs m (k .registry)) → (f-i : i < 2 ^ 64) → (g : RegistryState) → (e-g : (i < length gs → g ≡ getD gs i blank)) → (is-g : IsRegistry g) → (j : ℕ) → (e-j : j ≡ findAt ws n (k .registry) (k .credential)) → (f-j : j < 2 ^ 64) → (w : CredentialState) → (e-w : w ≡ rowAt ws j) → (is-w : IsRow w) → Sq W (‵ (ObsG gs) ∷ ‵ (BorG gs) ∷ ‵ (flft κ q) ∷ ‵ (ObsW ws) ∷ ‵ (BorW ws) ∷ ‵ (flft κ′ q′) ∷ ‵ (flft κ″ q″) ∷ ‵ Own ∷ ‵ (froom (sliceTy mref-w) l₂₉ 0) ∷ ‵ (fdies (sliceTy mref-w) l₂₉) ∷ ‵ (froom mref-w l₂₈ 0) ∷ ‵ (fdies mref-w l₂₈) ∷ ‵ (froom (sliceTy mref-g) l₂₇ 0) ∷ ‵ (fdies (sliceTy mref-g) l₂₇) ∷ ‵ (froom mref-g l₂₆ 0) ∷ ‵ (fdies mref-g l₂₆) ∷ ‵ (froom tyUnit l₂₅ 0) ∷ ‵ (fdies tyUnit l₂₅) ∷ ‵ (froom (sliceTy sref-w) l₂₄ 0) ∷ ‵ (fdies (sliceTy sref-w) l₂₄) ∷ ‵ (froom sref-w l₂₃ 0) ∷ ‵ (fdies sref-w l₂₃) ∷ ‵ (froom (sliceTy sref-w) l₂₂ 0) ∷ ‵ (fdies (sliceTy sref-w) l₂₂) ∷ ‵ (froom sref-w l₂₁ 0) ∷ ‵ (fdies sref-w l₂₁) ∷ ‵ (froom (sliceTy sref-g) l₂₀ 0) ∷ ‵ (fdies (sliceTy sref-g) l₂₀) ∷ ‵ (froom sref-g l₁₉ 0) ∷ ‵ (fdies sref-g l₁₉) ∷ ‵ (froom (sliceTy sref-g) l₁₈ 0) ∷ ‵ (fdies (sliceTy sref-g) l₁₈) ∷ ‵ (froom sref-g l₁₇ 0) ∷ ‵ (fdies sref-g l₁₇) ∷ ‵ (froom (sliceTy sref-w) l₁₆ 0) ∷ ‵ (fdies (sliceTy sref-w) l₁₆) ∷ ‵ (froom sref-w l₁₅ 0) ∷ ‵ (fdies sref-w l₁₅) ∷ ‵ (froom (sliceTy sref-g) l₁₄ 0) ∷ ‵ (fdies (sliceTy sref-g) l₁₄) ∷ ‵ (froom sref-g l₁₃ 0) ∷ ‵ (fdies sref-g l₁₃) ∷ ‵ (froom X′.mir l₁₂ 0) ∷ ‵ (fdies X′.mir l₁₂) ∷ ‵ (fat fullShare T′.mir l₁₁ 0 (T′.lowered w)) ∷ ‵ (fdies T′.mir l₁₁) ∷ ‵ (fat fullShare word l₁₀ 0 (vint w64 j)) ∷ ‵ (fdies word l₁₀) ∷ ‵ (fat fullShare G′.mir l₉ 0 (LL.val G.the-type G′.the-laws g)) ∷ ‵ (fdies G′.mir l₉) ∷ ‵ (fat fullShare word l₈ 0 (vint w64 i)) ∷ ‵ (fdies word l₈) ∷ ‵ (fat fullShare N′.mir l₇ 0 (N′.lowered k)) ∷ ‵ (fdies N′.mir l₇) ∷ ‵ (fat fullShare tyBool l₆ 0 (vbool ok)) ∷ ‵ (fdies tyBool l₆) ∷ ‵ (fat fullShare slice-s l₅ 0 (val-s)) ∷ ‵ (fdies slice-s l₅) ∷ ‵ (fat fullShare word l₄ 0 (vint w64 n)) ∷ ‵ (fdies word l₄) ∷ ‵ (fat fullShare slice-w l₃ 0 (val-w)) ∷ ‵ (fdies slice-w l₃) ∷ ‵ (fat fullShare word l₂ 0 (vint w64 m)) ∷ ‵ (fdies word l₂) ∷ ‵ (fat fullShare slice-g l₁ 0 (val-g)) ∷ ‵ (fdies slice-g l₁) ∷ ‵ (froom A′.mir l₀ 0) ∷ ‵ (fdies A′.mir l₀) ∷ []) (runs C Λ En mirᶠ.t-19 (atRet En Post))
       steps ok e-ok k e-k is-k i e-i f-i g e-g is-g j e-j f-j w e-w is-w =
           move ! (6 ∷ 7 ∷ []) $
           calls-step ! ok k is-k i f-i g is-g j f-j w is-w (and-then ! (load ! (from ! (stop !)) (look ! 54 refl)) (and-then ! (load ! (from ! (stop !)) (look ! 56 refl)) (and-then ! (load ! (from ! (stop !)) (look ! 52 refl)) (and-then ! (load ! (from ! (stop !)) (look ! 50 refl)) (and-then ! (load ! (from ! (stop !)) (look ! 62 refl)) (and-then ! (load ! (from ! (stop !)) (look ! 48 refl)) (and-then ! (load ! (from ! (stop !)) (look ! 46 refl)) (and-then ! (load ! (from ! (stop !)) (look ! 58 refl)) (and-then ! (load ! (from ! (stop !)) (look ! 44 refl)) (no-more !)))))))))) (λ r e u is.
@@ -662,7 +662,7 @@ module _ {M : Type 1} (𝓤 : URA M) (H : Heap 𝓤) (A : Atoms 𝓤) (W : Given
           puts i f-i j f-j r (reached gs m ws n s ok e-ok k e-k i e-i g e-g j e-j w e-w r e) (subst (λ (vs : List Val). Is X.the-row r vs) (LL.tells X.the-type X′.the-laws r _ is) is))
 
       -- from the call of `read_row` on
-      reads : (ok : Bool) → (e-ok : ok ≡ sound l) → (k : Named) → (e-k : k ≡ namedOf (requestOf s)) → (is-k : IsNamed k) → (i : ℕ) → (e-i : i ≡ findRegistry gs m (k .registry)) → (f-i : i < 2 ^ 64) → (g : RegistryState) → (e-g : (i < length gs → g ≡ getD gs i blank)) → (is-g : IsRegistry g) → (j : ℕ) → (e-j : j ≡ findAt ws n (k .registry) (k .credential)) → (f-j : j < 2 ^ 64) → Sq W (‵ (ObsG gs) ∷ ‵ (BorG gs) ∷ ‵ (flft κ q) ∷ ‵ (ObsW ws) ∷ ‵ (BorW ws) ∷ ‵ (flft κ′ q′) ∷ ‵ (flft κ″ q″) ∷ ‵ Own ∷ ‵ (froom (sliceTy mref-w) l₂₉ 0) ∷ ‵ (fdies (sliceTy mref-w) l₂₉) ∷ ‵ (froom mref-w l₂₈ 0) ∷ ‵ (fdies mref-w l₂₈) ∷ ‵ (froom (sliceTy mref-g) l₂₇ 0) ∷ ‵ (fdies (sliceTy mref-g) l₂₇) ∷ ‵ (froom mref-g l₂₆ 0) ∷ ‵ (fdies mref-g l₂₆) ∷ ‵ (froom tyUnit l₂₅ 0) ∷ ‵ (fdies tyUnit l₂₅) ∷ ‵ (froom (sliceTy sref-w) l₂₄ 0) ∷ ‵ (fdies (sliceTy sref-w) l₂₄) ∷ ‵ (froom sref-w l₂₃ 0) ∷ ‵ (fdies sref-w l₂₃) ∷ ‵ (froom (sliceTy sref-w) l₂₂ 0) ∷ ‵ (fdies (sliceTy sref-w) l₂₂) ∷ ‵ (froom sref-w l₂₁ 0) ∷ ‵ (fdies sref-w l₂₁) ∷ ‵ (froom (sliceTy sref-g) l₂₀ 0) ∷ ‵ (fdies (sliceTy sref-g) l₂₀) ∷ ‵ (froom sref-g l₁₉ 0) ∷ ‵ (fdies sref-g l₁₉) ∷ ‵ (froom (sliceTy sref-g) l₁₈ 0) ∷ ‵ (fdies (sliceTy sref-g) l₁₈) ∷ ‵ (froom sref-g l₁₇ 0) ∷ ‵ (fdies sref-g l₁₇) ∷ ‵ (froom (sliceTy sref-w) l₁₆ 0) ∷ ‵ (fdies (sliceTy sref-w) l₁₆) ∷ ‵ (froom sref-w l₁₅ 0) ∷ ‵ (fdies sref-w l₁₅) ∷ ‵ (froom (sliceTy sref-g) l₁₄ 0) ∷ ‵ (fdies (sliceTy sref-g) l₁₄) ∷ ‵ (froom sref-g l₁₃ 0) ∷ ‵ (fdies sref-g l₁₃) ∷ ‵ (froom X′.mir l₁₂ 0) ∷ ‵ (fdies X′.mir l₁₂) ∷ ‵ (froom T′.mir l₁₁ 0) ∷ ‵ (fdies T′.mir l₁₁) ∷ ‵ (fat fullShare word l₁₀ 0 (vint w64 j)) ∷ ‵ (fdies word l₁₀) ∷ ‵ (fat fullShare G′.mir l₉ 0 (LL.val G.the-type G′.the-laws g)) ∷ ‵ (fdies G′.mir l₉) ∷ ‵ (fat fullShare word l₈ 0 (vint w64 i)) ∷ ‵ (fdies word l₈) ∷ ‵ (fat fullShare N′.mir l₇ 0 (N′.lowered k)) ∷ ‵ (fdies N′.mir l₇) ∷ ‵ (fat fullShare tyBool l₆ 0 (vbool ok)) ∷ ‵ (fdies tyBool l₆) ∷ ‵ (fat fullShare slice-s l₅ 0 (val-s)) ∷ ‵ (fdies slice-s l₅) ∷ ‵ (fat fullShare word l₄ 0 (vint w64 n)) ∷ ‵ (fdies word l₄) ∷ ‵ (fat fullShare slice-w l₃ 0 (val-w)) ∷ ‵ (fdies slice-w l₃) ∷ ‵ (fat fullShare word l₂ 0 (vint w64 m)) ∷ ‵ (fdies word l₂) ∷ ‵ (fat fullShare slice-g l₁ 0 (val-g)) ∷ ‵ (fdies slice-g l₁) ∷ ‵ (froom A′.mir l₀ 0) ∷ ‵ (fdies A′.mir l₀) ∷ []) (runs C Λ En mirᶠ.t-16 (atRet En Post))
+      reads : (ok : Bool) → (e-ok : ok ≡ sound l) → (k : Named) → (e-k : k ≡ headNamed s) → (is-k : IsNamed k) → (i : ℕ) → (e-i : i ≡ findRegistry gs m (k .registry)) → (f-i : i < 2 ^ 64) → (g : RegistryState) → (e-g : (i < length gs → g ≡ getD gs i blank)) → (is-g : IsRegistry g) → (j : ℕ) → (e-j : j ≡ findAt ws n (k .registry) (k .credential)) → (f-j : j < 2 ^ 64) → Sq W (‵ (ObsG gs) ∷ ‵ (BorG gs) ∷ ‵ (flft κ q) ∷ ‵ (ObsW ws) ∷ ‵ (BorW ws) ∷ ‵ (flft κ′ q′) ∷ ‵ (flft κ″ q″) ∷ ‵ Own ∷ ‵ (froom (sliceTy mref-w) l₂₉ 0) ∷ ‵ (fdies (sliceTy mref-w) l₂₉) ∷ ‵ (froom mref-w l₂₈ 0) ∷ ‵ (fdies mref-w l₂₈) ∷ ‵ (froom (sliceTy mref-g) l₂₇ 0) ∷ ‵ (fdies (sliceTy mref-g) l₂₇) ∷ ‵ (froom mref-g l₂₆ 0) ∷ ‵ (fdies mref-g l₂₆) ∷ ‵ (froom tyUnit l₂₅ 0) ∷ ‵ (fdies tyUnit l₂₅) ∷ ‵ (froom (sliceTy sref-w) l₂₄ 0) ∷ ‵ (fdies (sliceTy sref-w) l₂₄) ∷ ‵ (froom sref-w l₂₃ 0) ∷ ‵ (fdies sref-w l₂₃) ∷ ‵ (froom (sliceTy sref-w) l₂₂ 0) ∷ ‵ (fdies (sliceTy sref-w) l₂₂) ∷ ‵ (froom sref-w l₂₁ 0) ∷ ‵ (fdies sref-w l₂₁) ∷ ‵ (froom (sliceTy sref-g) l₂₀ 0) ∷ ‵ (fdies (sliceTy sref-g) l₂₀) ∷ ‵ (froom sref-g l₁₉ 0) ∷ ‵ (fdies sref-g l₁₉) ∷ ‵ (froom (sliceTy sref-g) l₁₈ 0) ∷ ‵ (fdies (sliceTy sref-g) l₁₈) ∷ ‵ (froom sref-g l₁₇ 0) ∷ ‵ (fdies sref-g l₁₇) ∷ ‵ (froom (sliceTy sref-w) l₁₆ 0) ∷ ‵ (fdies (sliceTy sref-w) l₁₆) ∷ ‵ (froom sref-w l₁₅ 0) ∷ ‵ (fdies sref-w l₁₅) ∷ ‵ (froom (sliceTy sref-g) l₁₄ 0) ∷ ‵ (fdies (sliceTy sref-g) l₁₄) ∷ ‵ (froom sref-g l₁₃ 0) ∷ ‵ (fdies sref-g l₁₃) ∷ ‵ (froom X′.mir l₁₂ 0) ∷ ‵ (fdies X′.mir l₁₂) ∷ ‵ (froom T′.mir l₁₁ 0) ∷ ‵ (fdies T′.mir l₁₁) ∷ ‵ (fat fullShare word l₁₀ 0 (vint w64 j)) ∷ ‵ (fdies word l₁₀) ∷ ‵ (fat fullShare G′.mir l₉ 0 (LL.val G.the-type G′.the-laws g)) ∷ ‵ (fdies G′.mir l₉) ∷ ‵ (fat fullShare word l₈ 0 (vint w64 i)) ∷ ‵ (fdies word l₈) ∷ ‵ (fat fullShare N′.mir l₇ 0 (N′.lowered k)) ∷ ‵ (fdies N′.mir l₇) ∷ ‵ (fat fullShare tyBool l₆ 0 (vbool ok)) ∷ ‵ (fdies tyBool l₆) ∷ ‵ (fat fullShare slice-s l₅ 0 (val-s)) ∷ ‵ (fdies slice-s l₅) ∷ ‵ (fat fullShare word l₄ 0 (vint w64 n)) ∷ ‵ (fdies word l₄) ∷ ‵ (fat fullShare slice-w l₃ 0 (val-w)) ∷ ‵ (fdies slice-w l₃) ∷ ‵ (fat fullShare word l₂ 0 (vint w64 m)) ∷ ‵ (fdies word l₂) ∷ ‵ (fat fullShare slice-g l₁ 0 (val-g)) ∷ ‵ (fdies slice-g l₁) ∷ ‵ (froom A′.mir l₀ 0) ∷ ‵ (fdies A′.mir l₀) ∷ []) (runs C Λ En mirᶠ.t-16 (atRet En Post))
       reads ok e-ok k e-k is-k i e-i f-i g e-g is-g j e-j f-j =
           assigns ! (addr ! (from ! (fld ! refl (hop ! (look-in ! 60 (sub ! 0 refl (whole !))) (stop !))))) (from ! (stop !)) (init ! 20 refl (tt, tt)) $
           assigns ! (agg ! (and-then ! (load ! (from ! (stop !)) (look ! 20 refl)) (and-then ! (load ! (from ! (fld ! refl (stop !))) (look-in ! 60 (sub ! 1 refl (whole !)))) (no-more !)))) (from ! (stop !)) (init ! 18 refl (tt, (tt, (record { fits = room-w .0 }, tt)))) $
@@ -675,7 +675,7 @@ module _ {M : Type 1} (𝓤 : URA M) (H : Heap 𝓤) (A : Atoms 𝓤) (W : Given
           steps ok e-ok k e-k is-k i e-i f-i g e-g is-g j e-j f-j r e (subst (λ (vs : List Val). Is T.the-row r vs) (LL.tells T.the-type T′.the-laws r _ is) is))
 
       -- from the call of `find_at` on
-      finds : (ok : Bool) → (e-ok : ok ≡ sound l) → (k : Named) → (e-k : k ≡ namedOf (requestOf s)) → (is-k : IsNamed k) → (i : ℕ) → (e-i : i ≡ findRegistry gs m (k .registry)) → (f-i : i < 2 ^ 64) → (g : RegistryState) → (e-g : (i < length gs → g ≡ getD gs i blank)) → (is-g : IsRegistry g) → Sq W (‵ (ObsG gs) ∷ ‵ (BorG gs) ∷ ‵ (flft κ q) ∷ ‵ (ObsW ws) ∷ ‵ (BorW ws) ∷ ‵ (flft κ′ q′) ∷ ‵ (flft κ″ q″) ∷ ‵ Own ∷ ‵ (froom (sliceTy mref-w) l₂₉ 0) ∷ ‵ (fdies (sliceTy mref-w) l₂₉) ∷ ‵ (froom mref-w l₂₈ 0) ∷ ‵ (fdies mref-w l₂₈) ∷ ‵ (froom (sliceTy mref-g) l₂₇ 0) ∷ ‵ (fdies (sliceTy mref-g) l₂₇) ∷ ‵ (froom mref-g l₂₆ 0) ∷ ‵ (fdies mref-g l₂₆) ∷ ‵ (froom tyUnit l₂₅ 0) ∷ ‵ (fdies tyUnit l₂₅) ∷ ‵ (froom (sliceTy sref-w) l₂₄ 0) ∷ ‵ (fdies (sliceTy sref-w) l₂₄) ∷ ‵ (froom sref-w l₂₃ 0) ∷ ‵ (fdies sref-w l₂₃) ∷ ‵ (froom (sliceTy sref-w) l₂₂ 0) ∷ ‵ (fdies (sliceTy sref-w) l₂₂) ∷ ‵ (froom sref-w l₂₁ 0) ∷ ‵ (fdies sref-w l₂₁) ∷ ‵ (froom (sliceTy sref-g) l₂₀ 0) ∷ ‵ (fdies (sliceTy sref-g) l₂₀) ∷ ‵ (froom sref-g l₁₉ 0) ∷ ‵ (fdies sref-g l₁₉) ∷ ‵ (froom (sliceTy sref-g) l₁₈ 0) ∷ ‵ (fdies (sliceTy sref-g) l₁₈) ∷ ‵ (froom sref-g l₁₇ 0) ∷ ‵ (fdies sref-g l₁₇) ∷ ‵ (froom (sliceTy sref-w) l₁₆ 0) ∷ ‵ (fdies (sliceTy sref-w) l₁₆) ∷ ‵ (froom sref-w l₁₅ 0) ∷ ‵ (fdies sref-w l₁₅) ∷ ‵ (froom (sliceTy sref-g) l₁₄ 0) ∷ ‵ (fdies (sliceTy sref-g) l₁₄) ∷ ‵ (froom sref-g l₁₃ 0) ∷ ‵ (fdies sref-g l₁₃) ∷ ‵ (froom X′.mir l₁₂ 0) ∷ ‵ (fdies X′.mir l₁₂) ∷ ‵ (froom T′.mir l₁₁ 0) ∷ ‵ (fdies T′.mir l₁₁) ∷ ‵ (froom word l₁₀ 0) ∷ ‵ (fdies word l₁₀) ∷ ‵ (fat fullShare G′.mir l₉ 0 (LL.val G.the-type G′.the-laws g)) ∷ ‵ (fdies G′.mir l₉) ∷ ‵ (fat fullShare word l₈ 0 (vint w64 i)) ∷ ‵ (fdies word l₈) ∷ ‵ (fat fullShare N′.mir l₇ 0 (N′.lowered k)) ∷ ‵ (fdies N′.mir l₇) ∷ ‵ (fat fullShare tyBool l₆ 0 (vbool ok)) ∷ ‵ (fdies tyBool l₆) ∷ ‵ (fat fullShare slice-s l₅ 0 (val-s)) ∷ ‵ (fdies slice-s l₅) ∷ ‵ (fat fullShare word l₄ 0 (vint w64 n)) ∷ ‵ (fdies word l₄) ∷ ‵ (fat fullShare slice-w l₃ 0 (val-w)) ∷ ‵ (fdies slice-w l₃) ∷ ‵ (fat fullShare word l₂ 0 (vint w64 m)) ∷ ‵ (fdies word l₂) ∷ ‵ (fat fullShare slice-g l₁ 0 (val-g)) ∷ ‵ (fdies slice-g l₁) ∷ ‵ (froom A′.mir l₀ 0) ∷ ‵ (fdies A′.mir l₀) ∷ []) (runs C Λ En mirᶠ.t-13 (atRet En Post))
+      finds : (ok : Bool) → (e-ok : ok ≡ sound l) → (k : Named) → (e-k : k ≡ headNamed s) → (is-k : IsNamed k) → (i : ℕ) → (e-i : i ≡ findRegistry gs m (k .registry)) → (f-i : i < 2 ^ 64) → (g : RegistryState) → (e-g : (i < length gs → g ≡ getD gs i blank)) → (is-g : IsRegistry g) → Sq W (‵ (ObsG gs) ∷ ‵ (BorG gs) ∷ ‵ (flft κ q) ∷ ‵ (ObsW ws) ∷ ‵ (BorW ws) ∷ ‵ (flft κ′ q′) ∷ ‵ (flft κ″ q″) ∷ ‵ Own ∷ ‵ (froom (sliceTy mref-w) l₂₉ 0) ∷ ‵ (fdies (sliceTy mref-w) l₂₉) ∷ ‵ (froom mref-w l₂₈ 0) ∷ ‵ (fdies mref-w l₂₈) ∷ ‵ (froom (sliceTy mref-g) l₂₇ 0) ∷ ‵ (fdies (sliceTy mref-g) l₂₇) ∷ ‵ (froom mref-g l₂₆ 0) ∷ ‵ (fdies mref-g l₂₆) ∷ ‵ (froom tyUnit l₂₅ 0) ∷ ‵ (fdies tyUnit l₂₅) ∷ ‵ (froom (sliceTy sref-w) l₂₄ 0) ∷ ‵ (fdies (sliceTy sref-w) l₂₄) ∷ ‵ (froom sref-w l₂₃ 0) ∷ ‵ (fdies sref-w l₂₃) ∷ ‵ (froom (sliceTy sref-w) l₂₂ 0) ∷ ‵ (fdies (sliceTy sref-w) l₂₂) ∷ ‵ (froom sref-w l₂₁ 0) ∷ ‵ (fdies sref-w l₂₁) ∷ ‵ (froom (sliceTy sref-g) l₂₀ 0) ∷ ‵ (fdies (sliceTy sref-g) l₂₀) ∷ ‵ (froom sref-g l₁₉ 0) ∷ ‵ (fdies sref-g l₁₉) ∷ ‵ (froom (sliceTy sref-g) l₁₈ 0) ∷ ‵ (fdies (sliceTy sref-g) l₁₈) ∷ ‵ (froom sref-g l₁₇ 0) ∷ ‵ (fdies sref-g l₁₇) ∷ ‵ (froom (sliceTy sref-w) l₁₆ 0) ∷ ‵ (fdies (sliceTy sref-w) l₁₆) ∷ ‵ (froom sref-w l₁₅ 0) ∷ ‵ (fdies sref-w l₁₅) ∷ ‵ (froom (sliceTy sref-g) l₁₄ 0) ∷ ‵ (fdies (sliceTy sref-g) l₁₄) ∷ ‵ (froom sref-g l₁₃ 0) ∷ ‵ (fdies sref-g l₁₃) ∷ ‵ (froom X′.mir l₁₂ 0) ∷ ‵ (fdies X′.mir l₁₂) ∷ ‵ (froom T′.mir l₁₁ 0) ∷ ‵ (fdies T′.mir l₁₁) ∷ ‵ (froom word l₁₀ 0) ∷ ‵ (fdies word l₁₀) ∷ ‵ (fat fullShare G′.mir l₉ 0 (LL.val G.the-type G′.the-laws g)) ∷ ‵ (fdies G′.mir l₉) ∷ ‵ (fat fullShare word l₈ 0 (vint w64 i)) ∷ ‵ (fdies word l₈) ∷ ‵ (fat fullShare N′.mir l₇ 0 (N′.lowered k)) ∷ ‵ (fdies N′.mir l₇) ∷ ‵ (fat fullShare tyBool l₆ 0 (vbool ok)) ∷ ‵ (fdies tyBool l₆) ∷ ‵ (fat fullShare slice-s l₅ 0 (val-s)) ∷ ‵ (fdies slice-s l₅) ∷ ‵ (fat fullShare word l₄ 0 (vint w64 n)) ∷ ‵ (fdies word l₄) ∷ ‵ (fat fullShare slice-w l₃ 0 (val-w)) ∷ ‵ (fdies slice-w l₃) ∷ ‵ (fat fullShare word l₂ 0 (vint w64 m)) ∷ ‵ (fdies word l₂) ∷ ‵ (fat fullShare slice-g l₁ 0 (val-g)) ∷ ‵ (fdies slice-g l₁) ∷ ‵ (froom A′.mir l₀ 0) ∷ ‵ (fdies A′.mir l₀) ∷ []) (runs C Λ En mirᶠ.t-13 (atRet En Post))
       finds ok e-ok k e-k is-k i e-i f-i g e-g is-g =
           assigns ! (addr ! (from ! (fld ! refl (hop ! (look-in ! 60 (sub ! 0 refl (whole !))) (stop !))))) (from ! (stop !)) (init ! 24 refl (tt, tt)) $
           assigns ! (agg ! (and-then ! (load ! (from ! (stop !)) (look ! 24 refl)) (and-then ! (load ! (from ! (fld ! refl (stop !))) (look-in ! 60 (sub ! 1 refl (whole !)))) (no-more !)))) (from ! (stop !)) (init ! 22 refl (tt, (tt, (record { fits = room-w .0 }, tt)))) $
@@ -688,7 +688,7 @@ module _ {M : Type 1} (𝓤 : URA M) (H : Heap 𝓤) (A : Atoms 𝓤) (W : Given
           reads ok e-ok k e-k is-k i e-i f-i g e-g is-g r e (is .1))
 
       -- from the call of `read_registry` on
-      fetches : (ok : Bool) → (e-ok : ok ≡ sound l) → (k : Named) → (e-k : k ≡ namedOf (requestOf s)) → (is-k : IsNamed k) → (i : ℕ) → (e-i : i ≡ findRegistry gs m (k .registry)) → (f-i : i < 2 ^ 64) → Sq W (‵ (ObsG gs) ∷ ‵ (BorG gs) ∷ ‵ (flft κ q) ∷ ‵ (ObsW ws) ∷ ‵ (BorW ws) ∷ ‵ (flft κ′ q′) ∷ ‵ (flft κ″ q″) ∷ ‵ Own ∷ ‵ (froom (sliceTy mref-w) l₂₉ 0) ∷ ‵ (fdies (sliceTy mref-w) l₂₉) ∷ ‵ (froom mref-w l₂₈ 0) ∷ ‵ (fdies mref-w l₂₈) ∷ ‵ (froom (sliceTy mref-g) l₂₇ 0) ∷ ‵ (fdies (sliceTy mref-g) l₂₇) ∷ ‵ (froom mref-g l₂₆ 0) ∷ ‵ (fdies mref-g l₂₆) ∷ ‵ (froom tyUnit l₂₅ 0) ∷ ‵ (fdies tyUnit l₂₅) ∷ ‵ (froom (sliceTy sref-w) l₂₄ 0) ∷ ‵ (fdies (sliceTy sref-w) l₂₄) ∷ ‵ (froom sref-w l₂₃ 0) ∷ ‵ (fdies sref-w l₂₃) ∷ ‵ (froom (sliceTy sref-w) l₂₂ 0) ∷ ‵ (fdies (sliceTy sref-w) l₂₂) ∷ ‵ (froom sref-w l₂₁ 0) ∷ ‵ (fdies sref-w l₂₁) ∷ ‵ (froom (sliceTy sref-g) l₂₀ 0) ∷ ‵ (fdies (sliceTy sref-g) l₂₀) ∷ ‵ (froom sref-g l₁₉ 0) ∷ ‵ (fdies sref-g l₁₉) ∷ ‵ (froom (sliceTy sref-g) l₁₈ 0) ∷ ‵ (fdies (sliceTy sref-g) l₁₈) ∷ ‵ (froom sref-g l₁₇ 0) ∷ ‵ (fdies sref-g l₁₇) ∷ ‵ (froom (sliceTy sref-w) l₁₆ 0) ∷ ‵ (fdies (sliceTy sref-w) l₁₆) ∷ ‵ (froom sref-w l₁₅ 0) ∷ ‵ (fdies sref-w l₁₅) ∷ ‵ (froom (sliceTy sref-g) l₁₄ 0) ∷ ‵ (fdies (sliceTy sref-g) l₁₄) ∷ ‵ (froom sref-g l₁₃ 0) ∷ ‵ (fdies sref-g l₁₃) ∷ ‵ (froom X′.mir l₁₂ 0) ∷ ‵ (fdies X′.mir l₁₂) ∷ ‵ (froom T′.mir l₁₁ 0) ∷ ‵ (fdies T′.mir l₁₁) ∷ ‵ (froom word l₁₀ 0) ∷ ‵ (fdies word l₁₀) ∷ ‵ (froom G′.mir l₉ 0) ∷ ‵ (fdies G′.mir l₉) ∷ ‵ (fat fullShare word l₈ 0 (vint w64 i)) ∷ ‵ (fdies word l₈) ∷ ‵ (fat fullShare N′.mir l₇ 0 (N′.lowered k)) ∷ ‵ (fdies N′.mir l₇) ∷ ‵ (fat fullShare tyBool l₆ 0 (vbool ok)) ∷ ‵ (fdies tyBool l₆) ∷ ‵ (fat fullShare slice-s l₅ 0 (val-s)) ∷ ‵ (fdies slice-s l₅) ∷ ‵ (fat fullShare word l₄ 0 (vint w64 n)) ∷ ‵ (fdies word l₄) ∷ ‵ (fat fullShare slice-w l₃ 0 (val-w)) ∷ ‵ (fdies slice-w l₃) ∷ ‵ (fat fullShare word l₂ 0 (vint w64 m)) ∷ ‵ (fdies word l₂) ∷ ‵ (fat fullShare slice-g l₁ 0 (val-g)) ∷ ‵ (fdies slice-g l₁) ∷ ‵ (froom A′.mir l₀ 0) ∷ ‵ (fdies A′.mir l₀) ∷ []) (runs C Λ En mirᶠ.t-10 (atRet En Post))
+      fetches : (ok : Bool) → (e-ok : ok ≡ sound l) → (k : Named) → (e-k : k ≡ headNamed s) → (is-k : IsNamed k) → (i : ℕ) → (e-i : i ≡ findRegistry gs m (k .registry)) → (f-i : i < 2 ^ 64) → Sq W (‵ (ObsG gs) ∷ ‵ (BorG gs) ∷ ‵ (flft κ q) ∷ ‵ (ObsW ws) ∷ ‵ (BorW ws) ∷ ‵ (flft κ′ q′) ∷ ‵ (flft κ″ q″) ∷ ‵ Own ∷ ‵ (froom (sliceTy mref-w) l₂₉ 0) ∷ ‵ (fdies (sliceTy mref-w) l₂₉) ∷ ‵ (froom mref-w l₂₈ 0) ∷ ‵ (fdies mref-w l₂₈) ∷ ‵ (froom (sliceTy mref-g) l₂₇ 0) ∷ ‵ (fdies (sliceTy mref-g) l₂₇) ∷ ‵ (froom mref-g l₂₆ 0) ∷ ‵ (fdies mref-g l₂₆) ∷ ‵ (froom tyUnit l₂₅ 0) ∷ ‵ (fdies tyUnit l₂₅) ∷ ‵ (froom (sliceTy sref-w) l₂₄ 0) ∷ ‵ (fdies (sliceTy sref-w) l₂₄) ∷ ‵ (froom sref-w l₂₃ 0) ∷ ‵ (fdies sref-w l₂₃) ∷ ‵ (froom (sliceTy sref-w) l₂₂ 0) ∷ ‵ (fdies (sliceTy sref-w) l₂₂) ∷ ‵ (froom sref-w l₂₁ 0) ∷ ‵ (fdies sref-w l₂₁) ∷ ‵ (froom (sliceTy sref-g) l₂₀ 0) ∷ ‵ (fdies (sliceTy sref-g) l₂₀) ∷ ‵ (froom sref-g l₁₉ 0) ∷ ‵ (fdies sref-g l₁₉) ∷ ‵ (froom (sliceTy sref-g) l₁₈ 0) ∷ ‵ (fdies (sliceTy sref-g) l₁₈) ∷ ‵ (froom sref-g l₁₇ 0) ∷ ‵ (fdies sref-g l₁₇) ∷ ‵ (froom (sliceTy sref-w) l₁₆ 0) ∷ ‵ (fdies (sliceTy sref-w) l₁₆) ∷ ‵ (froom sref-w l₁₅ 0) ∷ ‵ (fdies sref-w l₁₅) ∷ ‵ (froom (sliceTy sref-g) l₁₄ 0) ∷ ‵ (fdies (sliceTy sref-g) l₁₄) ∷ ‵ (froom sref-g l₁₃ 0) ∷ ‵ (fdies sref-g l₁₃) ∷ ‵ (froom X′.mir l₁₂ 0) ∷ ‵ (fdies X′.mir l₁₂) ∷ ‵ (froom T′.mir l₁₁ 0) ∷ ‵ (fdies T′.mir l₁₁) ∷ ‵ (froom word l₁₀ 0) ∷ ‵ (fdies word l₁₀) ∷ ‵ (froom G′.mir l₉ 0) ∷ ‵ (fdies G′.mir l₉) ∷ ‵ (fat fullShare word l₈ 0 (vint w64 i)) ∷ ‵ (fdies word l₈) ∷ ‵ (fat fullShare N′.mir l₇ 0 (N′.lowered k)) ∷ ‵ (fdies N′.mir l₇) ∷ ‵ (fat fullShare tyBool l₆ 0 (vbool ok)) ∷ ‵ (fdies tyBool l₆) ∷ ‵ (fat fullShare slice-s l₅ 0 (val-s)) ∷ ‵ (fdies slice-s l₅) ∷ ‵ (fat fullShare word l₄ 0 (vint w64 n)) ∷ ‵ (fdies word l₄) ∷ ‵ (fat fullShare slice-w l₃ 0 (val-w)) ∷ ‵ (fdies slice-w l₃) ∷ ‵ (fat fullShare word l₂ 0 (vint w64 m)) ∷ ‵ (fdies word l₂) ∷ ‵ (fat fullShare slice-g l₁ 0 (val-g)) ∷ ‵ (fdies slice-g l₁) ∷ ‵ (froom A′.mir l₀ 0) ∷ ‵ (fdies A′.mir l₀) ∷ []) (runs C Λ En mirᶠ.t-10 (atRet En Post))
       fetches ok e-ok k e-k is-k i e-i f-i =
           assigns ! (addr ! (from ! (fld ! refl (hop ! (look-in ! 64 (sub ! 0 refl (whole !))) (stop !))))) (from ! (stop !)) (init ! 28 refl (tt, tt)) $
           assigns ! (agg ! (and-then ! (load ! (from ! (stop !)) (look ! 28 refl)) (and-then ! (load ! (from ! (fld ! refl (stop !))) (look-in ! 64 (sub ! 1 refl (whole !)))) (no-more !)))) (from ! (stop !)) (init ! 26 refl (tt, (tt, (record { fits = room-g .0 }, tt)))) $
@@ -699,7 +699,7 @@ module _ {M : Type 1} (𝓤 : URA M) (H : Heap 𝓤) (A : Atoms 𝓤) (W : Given
           finds ok e-ok k e-k is-k i e-i f-i r f (subst (λ (vs : List Val). Is G.the-row r vs) (LL.tells G.the-type G′.the-laws r _ is) is))
 
       -- from the call of `find_registry` on
-      seeks : (ok : Bool) → (e-ok : ok ≡ sound l) → (k : Named) → (e-k : k ≡ namedOf (requestOf s)) → (is-k : IsNamed k) → Sq W (‵ (ObsG gs) ∷ ‵ (BorG gs) ∷ ‵ (flft κ q) ∷ ‵ (ObsW ws) ∷ ‵ (BorW ws) ∷ ‵ (flft κ′ q′) ∷ ‵ (flft κ″ q″) ∷ ‵ Own ∷ ‵ (froom (sliceTy mref-w) l₂₉ 0) ∷ ‵ (fdies (sliceTy mref-w) l₂₉) ∷ ‵ (froom mref-w l₂₈ 0) ∷ ‵ (fdies mref-w l₂₈) ∷ ‵ (froom (sliceTy mref-g) l₂₇ 0) ∷ ‵ (fdies (sliceTy mref-g) l₂₇) ∷ ‵ (froom mref-g l₂₆ 0) ∷ ‵ (fdies mref-g l₂₆) ∷ ‵ (froom tyUnit l₂₅ 0) ∷ ‵ (fdies tyUnit l₂₅) ∷ ‵ (froom (sliceTy sref-w) l₂₄ 0) ∷ ‵ (fdies (sliceTy sref-w) l₂₄) ∷ ‵ (froom sref-w l₂₃ 0) ∷ ‵ (fdies sref-w l₂₃) ∷ ‵ (froom (sliceTy sref-w) l₂₂ 0) ∷ ‵ (fdies (sliceTy sref-w) l₂₂) ∷ ‵ (froom sref-w l₂₁ 0) ∷ ‵ (fdies sref-w l₂₁) ∷ ‵ (froom (sliceTy sref-g) l₂₀ 0) ∷ ‵ (fdies (sliceTy sref-g) l₂₀) ∷ ‵ (froom sref-g l₁₉ 0) ∷ ‵ (fdies sref-g l₁₉) ∷ ‵ (froom (sliceTy sref-g) l₁₈ 0) ∷ ‵ (fdies (sliceTy sref-g) l₁₈) ∷ ‵ (froom sref-g l₁₇ 0) ∷ ‵ (fdies sref-g l₁₇) ∷ ‵ (froom (sliceTy sref-w) l₁₆ 0) ∷ ‵ (fdies (sliceTy sref-w) l₁₆) ∷ ‵ (froom sref-w l₁₅ 0) ∷ ‵ (fdies sref-w l₁₅) ∷ ‵ (froom (sliceTy sref-g) l₁₄ 0) ∷ ‵ (fdies (sliceTy sref-g) l₁₄) ∷ ‵ (froom sref-g l₁₃ 0) ∷ ‵ (fdies sref-g l₁₃) ∷ ‵ (froom X′.mir l₁₂ 0) ∷ ‵ (fdies X′.mir l₁₂) ∷ ‵ (froom T′.mir l₁₁ 0) ∷ ‵ (fdies T′.mir l₁₁) ∷ ‵ (froom word l₁₀ 0) ∷ ‵ (fdies word l₁₀) ∷ ‵ (froom G′.mir l₉ 0) ∷ ‵ (fdies G′.mir l₉) ∷ ‵ (froom word l₈ 0) ∷ ‵ (fdies word l₈) ∷ ‵ (fat fullShare N′.mir l₇ 0 (N′.lowered k)) ∷ ‵ (fdies N′.mir l₇) ∷ ‵ (fat fullShare tyBool l₆ 0 (vbool ok)) ∷ ‵ (fdies tyBool l₆) ∷ ‵ (fat fullShare slice-s l₅ 0 (val-s)) ∷ ‵ (fdies slice-s l₅) ∷ ‵ (fat fullShare word l₄ 0 (vint w64 n)) ∷ ‵ (fdies word l₄) ∷ ‵ (fat fullShare slice-w l₃ 0 (val-w)) ∷ ‵ (fdies slice-w l₃) ∷ ‵ (fat fullShare word l₂ 0 (vint w64 m)) ∷ ‵ (fdies word l₂) ∷ ‵ (fat fullShare slice-g l₁ 0 (val-g)) ∷ ‵ (fdies slice-g l₁) ∷ ‵ (froom A′.mir l₀ 0) ∷ ‵ (fdies A′.mir l₀) ∷ []) (runs C Λ En mirᶠ.t-7 (atRet En Post))
+      seeks : (ok : Bool) → (e-ok : ok ≡ sound l) → (k : Named) → (e-k : k ≡ headNamed s) → (is-k : IsNamed k) → Sq W (‵ (ObsG gs) ∷ ‵ (BorG gs) ∷ ‵ (flft κ q) ∷ ‵ (ObsW ws) ∷ ‵ (BorW ws) ∷ ‵ (flft κ′ q′) ∷ ‵ (flft κ″ q″) ∷ ‵ Own ∷ ‵ (froom (sliceTy mref-w) l₂₉ 0) ∷ ‵ (fdies (sliceTy mref-w) l₂₉) ∷ ‵ (froom mref-w l₂₈ 0) ∷ ‵ (fdies mref-w l₂₈) ∷ ‵ (froom (sliceTy mref-g) l₂₇ 0) ∷ ‵ (fdies (sliceTy mref-g) l₂₇) ∷ ‵ (froom mref-g l₂₆ 0) ∷ ‵ (fdies mref-g l₂₆) ∷ ‵ (froom tyUnit l₂₅ 0) ∷ ‵ (fdies tyUnit l₂₅) ∷ ‵ (froom (sliceTy sref-w) l₂₄ 0) ∷ ‵ (fdies (sliceTy sref-w) l₂₄) ∷ ‵ (froom sref-w l₂₃ 0) ∷ ‵ (fdies sref-w l₂₃) ∷ ‵ (froom (sliceTy sref-w) l₂₂ 0) ∷ ‵ (fdies (sliceTy sref-w) l₂₂) ∷ ‵ (froom sref-w l₂₁ 0) ∷ ‵ (fdies sref-w l₂₁) ∷ ‵ (froom (sliceTy sref-g) l₂₀ 0) ∷ ‵ (fdies (sliceTy sref-g) l₂₀) ∷ ‵ (froom sref-g l₁₉ 0) ∷ ‵ (fdies sref-g l₁₉) ∷ ‵ (froom (sliceTy sref-g) l₁₈ 0) ∷ ‵ (fdies (sliceTy sref-g) l₁₈) ∷ ‵ (froom sref-g l₁₇ 0) ∷ ‵ (fdies sref-g l₁₇) ∷ ‵ (froom (sliceTy sref-w) l₁₆ 0) ∷ ‵ (fdies (sliceTy sref-w) l₁₆) ∷ ‵ (froom sref-w l₁₅ 0) ∷ ‵ (fdies sref-w l₁₅) ∷ ‵ (froom (sliceTy sref-g) l₁₄ 0) ∷ ‵ (fdies (sliceTy sref-g) l₁₄) ∷ ‵ (froom sref-g l₁₃ 0) ∷ ‵ (fdies sref-g l₁₃) ∷ ‵ (froom X′.mir l₁₂ 0) ∷ ‵ (fdies X′.mir l₁₂) ∷ ‵ (froom T′.mir l₁₁ 0) ∷ ‵ (fdies T′.mir l₁₁) ∷ ‵ (froom word l₁₀ 0) ∷ ‵ (fdies word l₁₀) ∷ ‵ (froom G′.mir l₉ 0) ∷ ‵ (fdies G′.mir l₉) ∷ ‵ (froom word l₈ 0) ∷ ‵ (fdies word l₈) ∷ ‵ (fat fullShare N′.mir l₇ 0 (N′.lowered k)) ∷ ‵ (fdies N′.mir l₇) ∷ ‵ (fat fullShare tyBool l₆ 0 (vbool ok)) ∷ ‵ (fdies tyBool l₆) ∷ ‵ (fat fullShare slice-s l₅ 0 (val-s)) ∷ ‵ (fdies slice-s l₅) ∷ ‵ (fat fullShare word l₄ 0 (vint w64 n)) ∷ ‵ (fdies word l₄) ∷ ‵ (fat fullShare slice-w l₃ 0 (val-w)) ∷ ‵ (fdies slice-w l₃) ∷ ‵ (fat fullShare word l₂ 0 (vint w64 m)) ∷ ‵ (fdies word l₂) ∷ ‵ (fat fullShare slice-g l₁ 0 (val-g)) ∷ ‵ (fdies slice-g l₁) ∷ ‵ (froom A′.mir l₀ 0) ∷ ‵ (fdies A′.mir l₀) ∷ []) (runs C Λ En mirᶠ.t-7 (atRet En Post))
       seeks ok e-ok k e-k is-k =
           assigns ! (addr ! (from ! (fld ! refl (hop ! (look-in ! 64 (sub ! 0 refl (whole !))) (stop !))))) (from ! (stop !)) (init ! 32 refl (tt, tt)) $
           assigns ! (agg ! (and-then ! (load ! (from ! (stop !)) (look ! 32 refl)) (and-then ! (load ! (from ! (fld ! refl (stop !))) (look-in ! 64 (sub ! 1 refl (whole !)))) (no-more !)))) (from ! (stop !)) (init ! 30 refl (tt, (tt, (record { fits = room-g .0 }, tt)))) $

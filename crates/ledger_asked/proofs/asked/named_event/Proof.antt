@@ -42,22 +42,22 @@ named-in-requires : tie.Need-named-in-requires
 named-in-requires c κs = search needs
 
 returns : tie.Need-returns
-returns c s m = rw (c .before .enum-told .given .1, c .about .ensures, c .before .before .before .none .ensures)
+returns c s = rw (c .before .enum-told .given .1, c .about .ensures, c .before .before .before .none .ensures)
 
 returns-2 : tie.Need-returns-2
-returns-2 c s m = rw (c .before .enum-told2 .given .1, c .about2 .ensures, c .before .before .before .none .ensures)
+returns-2 c s = rw (c .before .enum-told2 .given .1, c .about2 .ensures, c .before .before .before .none .ensures)
 
 returns-3 : tie.Need-returns-3
-returns-3 c s m = rw (c .before .enum-told3 .given .1, c .about3 .ensures)
+returns-3 c s = rw (c .before .enum-told3 .given .1, c .about3 .ensures)
 
 returns-4 : tie.Need-returns-4
-returns-4 c s m = rw (c .before .enum-told4 .given .1, c .about4 .ensures)
+returns-4 c s = rw (c .before .enum-told4 .given .1, c .about4 .ensures)
 
 returns-5 : tie.Need-returns-5
-returns-5 c s m = rw (c .before .enum-told5 .given .1, c .about5 .ensures)
+returns-5 c s = rw (c .before .enum-told5 .given .1, c .about5 .ensures)
 
 returns-6 : tie.Need-returns-6
-returns-6 c s m = rw (c .before .enum-told6 .given .1, c .named-in .ensures m)
+returns-6 c s = rw (c .before .enum-told6 .given .1, c .named-in .ensures)
 
 pub named-event-spec : {M : Type 1} → statement M
 named-event-spec =
