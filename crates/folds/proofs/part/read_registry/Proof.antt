@@ -13,8 +13,9 @@ read-requires c κs = search needs
 returns : tie.Need-returns
 unfolding registryIn
 returns c =
-    let r = c .before .read .ensures in
-    (rw (← c .before .before .start .ensures, ← r .0), well-counted _ (r .1 .1 .0) (r .1 .1 .1))
+    let b3 = c .before .before .before in
+    let r = b3 .read .ensures in
+    (rw (← b3 .before .start .ensures, ← r .0), well-counted _ (r .1 .1 .0) (r .1 .1 .1))
 
 pub read-registry-spec : {M : Type 1} → statement M
 read-registry-spec = tie.close (tie.spec start-requires read-requires returns)
