@@ -2,6 +2,7 @@
 --     count-within    the count is at most the limit
 --     times-passed    one element more that is passed
 --     times-next      one element more that is read, and the cursor alone
+--     length-times    so many elements are read
 --     times-pushed    one element more, pushed to a list that has room for it
 --     section-none, section-one   a section of at most one element, by its count
 --     view-put        a prefix more, stored in its place
@@ -46,7 +47,7 @@ module _ {A : Type 0} (p : Reader A) (s : List ℕ) (c : Cursor) where
   pub times-next : (n : ℕ) (d : Cursor) (r : Read A) → d ≡ times n p s c .next → r ≡ p s d → r .next ≡ times (n + 1) p s c .next
   times-next n d r e f = times-passed n d (r .next) e (ap (λ (q : Read A). q .next) f)
 
-  length-times : (n : ℕ) → length (times n p s c .value) ≡ n
+  pub length-times : (n : ℕ) → length (times n p s c .value) ≡ n
   unfolding times
   length-times zero = refl
   length-times (suc n) = rw (length-append, length-times n) (add-one n)

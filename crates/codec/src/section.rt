@@ -139,7 +139,8 @@ pub fn pass_prefixes(c: Cursor, s: &[u8]) -> ListedRead
     }
 }
 
-fn at_most_16(n: usize) -> usize
+// How many a list of at most 16 has, whatever its count says.
+pub fn at_most_16(n: usize) -> usize
     ensures { λ r. ⌜ r ≡ min n 16 ⌝ }
 {
     if 16 < n { 16 } else { n }

@@ -180,7 +180,7 @@ fn against(repeat: bool, own: BasicPrefix, other: BasicPrefix) -> BasicPrefix
 }
 
 // How many elements the one at `i` is held against.
-fn until(repeat: bool, i: usize, n: usize) -> usize
+pub fn until(repeat: bool, i: usize, n: usize) -> usize
     ensures { λ r. ⌜ r ≡ cond repeat i n ⌝ }
 {
     if repeat {
@@ -189,7 +189,8 @@ fn until(repeat: bool, i: usize, n: usize) -> usize
     n
 }
 
-fn differs(found: bool, missing: bool) -> bool
+// Whether that breaks the rule: where it asks for a member that is there, one that is not found does.
+pub fn differs(found: bool, missing: bool) -> bool
     ensures { λ r. ⌜ r ≡ cond missing (not found) found ⌝ }
 {
     if missing {
@@ -226,7 +227,7 @@ fn check_rule(rule: Rule, repeat: bool, missing: bool, list: Members, other: Mem
 }
 
 // The first refusal of two.
-fn or_else(a: Membership, b: Membership) -> Membership
+pub fn or_else(a: Membership, b: Membership) -> Membership
     ensures { λ r. ⌜ r ≡ orElse a b ⌝ }
 {
     match a {

@@ -19,7 +19,7 @@ use Rattle.registry_error.specs.declared.error.RegistryRejection.the-variants.{
 use Rattle.registry_answer.specs.Answers.{acceptIf, firstOf}
 use Rattle.registry_verification.specs.Receipts.{hasGood, receipts}
 use Rattle.registry_verification.specs.Sequence.{nextSn}
-use Rattle.registry_verification.specs.Updated.{survivors, updatedMembers}
+use Rattle.registry_rotation.specs.Updated.{survivors, updatedMembers}
 use Rattle.registry_backer.specs.Backers.{standsAt, enoughReceipts, backedBy, authenticateBacker}
 use Rattle.registry_authentication.specs.Issuers.{authenticateIssuer}
 use Rattle.registry_inception.specs.InceptionFolds as N

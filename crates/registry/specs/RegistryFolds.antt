@@ -23,7 +23,7 @@ use Rattle.registry_error.specs.declared.error.Answer.{Answer}
 use Rattle.registry_error.specs.declared.error.Answer.the-variants.{Rejected}
 use Rattle.registry_answer.specs.Answers.{accepts, acceptIf, backerSet, firstOf}
 use Rattle.registry_verification.specs.Sequence.{nextSn}
-use Rattle.registry_verification.specs.Updated.{updatedMembers}
+use Rattle.registry_rotation.specs.Updated.{updatedMembers}
 use Rattle.registry_authentication.specs.Issuers.{authenticateIssuer}
 use Rattle.registry_backer.specs.Backers.{isBackerless, enoughReceipts}
 use Rattle.registry_inception.specs.InceptionFolds.{Outcome, thresholdFits, viewOutcome}

@@ -1,4 +1,2 @@
-pub mod Listed
 pub mod Marked
-pub mod Survivors
 pub mod Starred

@@ -1,4 +1,3 @@
 pub mod Receipts
 pub mod Sequence
-pub mod Updated
 pub mod Starred

@@ -1,5 +1,3 @@
-// Receipts, the rules on a rotation's lists, the members after it, and the place of an event behind a state.
-pub mod deltas;
+// Receipts, and the place of an event behind a state.
 pub mod sequence;
-pub mod state;
 pub mod verification;

@@ -1,4 +1,5 @@
 // Receipts of backers (docs/RULES.md, "Receipts"). Verifying a signature is the caller's; an attempt has the verdicts.
+use codec::section::at_most_16;
 use codec_cursor::cursor::Cursor;
 use registry_seals::signatures::Counted;
 use registry_seals::signatures::read_signature;
@@ -32,13 +33,6 @@ fn mark(m: Marks, backers: usize, index: u32, verdict: u8) -> Marks
         seen,
         valid: m.valid + 1,
     }
-}
-
-// No list has more backers.
-fn at_most_16(n: usize) -> usize
-    ensures { λ r. ⌜ r ≡ min n 16 ⌝ }
-{
-    if 16 < n { 16 } else { n }
 }
 
 // How many of so many backers have a good signature: there are 16 marks, and no backer past them is looked at.

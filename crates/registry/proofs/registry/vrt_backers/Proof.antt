@@ -11,7 +11,7 @@ use Rattle.registry.specs.RegistryFolds.{vrtBackers}
 use denote.Ref.{now}
 use mathlib.Core.Path.{_≡_, ap, sym, _∙_}
 use Rattle.registry_seals.specs.SignatureSections.{signaturesIn}
-use Rattle.registry_verification.specs.Updated.{updatedMembers}
+use Rattle.registry_rotation.specs.Updated.{updatedMembers}
 use Rattle.registry.proofs.RegistryLaws.{limit-chain, limit-list}
 use Rattle.laws.proofs.Views.{length-mapped}
 use Rattle.events.proofs.Members.{view-size}

@@ -1,5 +1,5 @@
 -- Lists that stay in the bytes, and the rules on them.
---     times-size, times-front, times-at, times-behind
+--     times-front, times-at, times-behind
 --                                         how many elements are read, the first of them, one of them, and one more
 --     all-listed                          a list that stays in the bytes, by its size
 --     listed-at, has-more                 a prefix that a loop reads, and one prefix more that is looked at
@@ -23,14 +23,10 @@ use Rattle.events.proofs.Members.{has-append}
 use Rattle.events_tel.specs.declared.tel.Listed.{Listed}
 use Rattle.events_tel.specs.TelEvents.{membersIn}
 use Rattle.codec_cursor.specs.declared.cursor.Cursor.{Cursor}
+use Rattle.codec.proofs.Loops.{length-times}
 use Rattle.codec_cursor.specs.Readers.{Read, Reader, readPrefix, times}
 
 module _ {A : Type 0} (p : Reader A) (s : List ℕ) (c : Cursor) where
-  pub times-size : (n : ℕ) → length (times n p s c .value) ≡ n
-  unfolding times
-  times-size zero = refl
-  times-size (suc n) = rw (length-append, times-size n) (add-one n)
-
   -- fewer elements are the first of more
   pub times-front : (n i : ℕ) → i ≤ n → take i (times n p s c .value) ≡ times i p s c .value
   unfolding times
@@ -39,8 +35,8 @@ module _ {A : Type 0} (p : Reader A) (s : List ℕ) (c : Cursor) where
   times-front (suc n) i b = go (ℕ-discrete i (suc n)) (times-front n i)
     where
       go : Dec (i ≡ suc n) → (i ≤ n → take i (times n p s c .value) ≡ times i p s c .value) → take i (times (suc n) p s c .value) ≡ times i p s c .value
-      go (yes e) less = rw e (take-all (suc n) (times (suc n) p s c .value) (omega (arith, times-size (suc n))))
-      go (no d) less = take-append-le i (times n p s c .value) _ (omega (arith, times-size n)) ∙ less (omega arith)
+      go (yes e) less = rw e (take-all (suc n) (times (suc n) p s c .value) (omega (arith, length-times p s c (suc n))))
+      go (no d) less = take-append-le i (times n p s c .value) _ (omega (arith, length-times p s c n)) ∙ less (omega arith)
 
   pub times-at : (n i : ℕ) (d : A) → i < n → getD (times n p s c .value) i d ≡ p s (times i p s c .next) .value
   unfolding times
@@ -48,8 +44,8 @@ module _ {A : Type 0} (p : Reader A) (s : List ℕ) (c : Cursor) where
   times-at (suc n) i d b = go (ℕ-discrete i n) (times-at n i d)
     where
       go : Dec (i ≡ n) → (i < n → getD (times n p s c .value) i d ≡ p s (times i p s c .next) .value) → getD (times (suc n) p s c .value) i d ≡ p s (times i p s c .next) .value
-      go (yes e) less = rw e (getD-at (times n p s c .value) _ [] d n (times-size n))
-      go (no h) less = List·getD-append (times n p s c .value) _ d i (omega (arith, times-size n)) ∙ less (omega arith)
+      go (yes e) less = rw e (getD-at (times n p s c .value) _ [] d n (length-times p s c n))
+      go (no h) less = List·getD-append (times n p s c .value) _ d i (omega (arith, length-times p s c n)) ∙ less (omega arith)
 
   -- one element more, behind others
   pub times-behind : (a : List A) (i : ℕ) (d : Cursor) (r : Read A) → d ≡ times i p s c .next → r ≡ p s d → (a ++ times i p s c .value) ++ (r .value ∷ []) ≡ a ++ times (i + 1) p s c .value

@@ -12,9 +12,10 @@ use Rattle.events.specs.Members.{view, has, breaks}
 use Rattle.events.proofs.Members.{view-size, view-at, has-step, check-found, all-sound}
 use Rattle.codec.proofs.Loops.{times-next}
 use Rattle.codec_cursor.specs.Readers.{readPrefix, times}
-use Rattle.registry_verification.proofs.Listed.{times-size, all-listed, current-breaks}
-use Rattle.registry_verification.proofs.deltas.check_held.Statement.{statement}
-use Rattle.registry_verification.proofs.deltas.check_held.Tie as tie
+use Rattle.codec.proofs.Loops.{length-times}
+use Rattle.registry_rotation.proofs.Listed.{all-listed, current-breaks}
+use Rattle.registry_rotation.proofs.deltas.check_held.Statement.{statement}
+use Rattle.registry_rotation.proofs.deltas.check_held.Tie as tie
 
 abbrev Inv-loop2 : tie.InvT-loop2
 Inv-loop2 s rule missing current n m i p x found₀ j₀ found j = (j ≤ m) × (found ≡ has x (take j (view current)))
@@ -35,11 +36,11 @@ full : (c : tie.Start Inv-loop2 μ-loop2 Inv-loop μ-loop) → length (c .args .
 full c = search length-mapped
 
 -- how many current members there are
-counted : (c : tie.After-size-of2 Inv-loop2 μ-loop2 Inv-loop μ-loop) → c .size-of2 .result ≡ length (view (c .before .before .before .args .t4))
-counted c = c .size-of2 .ensures ∙ sym (view-size (c .before .before .before .args .t4) (full (c .before .before .before)))
+counted : (c : tie.After-at-most-162 Inv-loop2 μ-loop2 Inv-loop μ-loop) → c .at-most-162 .result ≡ length (view (c .before .before .before .args .t4))
+counted c = c .at-most-162 .ensures ∙ sym (view-size (c .before .before .before .args .t4) (full (c .before .before .before)))
 
 -- whether the place breaks the rule is what the inner loop found
-place : (c : tie.After-differs Inv-loop2 μ-loop2 Inv-loop μ-loop) → breaks (c .before .before .before .before .before .before .before .before .before .before .before .args .rule) (times (c .before .before .before .before .before .before .before .before .before .size-of .result) readPrefix (now (c .before .before .before .before .before .before .before .before .before .before .before .args .s)) (c .before .before .before .before .before .before .before .before .before .before .before .args .list .start) .value) (view (c .before .before .before .before .before .before .before .before .before .before .before .args .t4)) (c .before .before .before .before .before .before .loop .i) ≡ c .differs .result
+place : (c : tie.After-differs Inv-loop2 μ-loop2 Inv-loop μ-loop) → breaks (c .before .before .before .before .before .before .before .before .before .before .before .args .rule) (times (c .before .before .before .before .before .before .before .before .before .at-most-16 .result) readPrefix (now (c .before .before .before .before .before .before .before .before .before .before .before .args .s)) (c .before .before .before .before .before .before .before .before .before .before .before .args .list .start) .value) (view (c .before .before .before .before .before .before .before .before .before .before .before .args .t4)) (c .before .before .before .before .before .before .loop .i) ≡ c .differs .result
 place c =
     let l = c .before .before .before .before .before .before .loop in
     let l2 = c .before .before .loop2 in
@@ -48,11 +49,11 @@ place c =
     let e : length (view (z .args .t4)) ≤ l2 .j = omega (arith, counted b) in
     current-breaks (now (z .args .s)) _ _ (z .pre .0) (z .pre .1) _ (view (z .args .t4)) _ (l .i) _ _ (l2 .found) _ (omega arith) (l .inv .1) (c .before .before .before .before .prefix .ensures) (l2 .inv .1 ∙ ap (has _) (take-all (l2 .j) (view (z .args .t4)) e)) (c .differs .ensures)
 
-size-of-requires : tie.Need-size-of-requires Inv-loop2 μ-loop2 Inv-loop μ-loop
-size-of-requires c κs = search needs
+at-most-16-requires : tie.Need-at-most-16-requires Inv-loop2 μ-loop2 Inv-loop μ-loop
+at-most-16-requires c κs = search needs
 
-size-of-requires-2 : tie.Need-size-of-requires-2 Inv-loop2 μ-loop2 Inv-loop μ-loop
-size-of-requires-2 c κs = search needs
+at-most-16-requires-2 : tie.Need-at-most-16-requires-2 Inv-loop2 μ-loop2 Inv-loop μ-loop
+at-most-16-requires-2 c κs = search needs
 
 loop-holds : tie.Need-loop-holds Inv-loop2 μ-loop2 Inv-loop μ-loop
 unfolding times
@@ -96,8 +97,8 @@ returns c =
     let l = c .before .before .before .before .before .before .before .loop in
     let b = c .before .before .before .before .before .before .before .before .before .before in
     let z = b .before .before .args in
-    rw (all-listed (now (z .s)) (z .list) _ (b .size-of .ensures))
-    (sym (check-found _ _ _ (l .i) (rw (times-size readPrefix (now (z .s)) (z .list .start) (b .size-of .result)) (omega arith)) (l .inv .2) (place (c .before) ∙ c .if1 .taken)))
+    rw (all-listed (now (z .s)) (z .list) _ (b .at-most-16 .ensures))
+    (sym (check-found _ _ _ (l .i) (rw (length-times readPrefix (now (z .s)) (z .list .start) (b .at-most-16 .result)) (omega arith)) (l .inv .2) (place (c .before) ∙ c .if1 .taken)))
 
 add-i : tie.Need-add-i Inv-loop2 μ-loop2 Inv-loop μ-loop
 add-i c = search needs
@@ -118,8 +119,8 @@ returns-2 c =
     let l = c .before .loop in
     let b = c .before .before .before .before in
     let z = b .before .before .args in
-    rw (all-listed (now (z .s)) (z .list) _ (b .size-of .ensures))
-    (sym (all-sound _ _ _ (λ k h. l .inv .2 k (omega (arith, times-size readPrefix (now (z .s)) (z .list .start) (b .size-of .result))))))
+    rw (all-listed (now (z .s)) (z .list) _ (b .at-most-16 .ensures))
+    (sym (all-sound _ _ _ (λ k h. l .inv .2 k (omega (arith, length-times readPrefix (now (z .s)) (z .list .start) (b .at-most-16 .result))))))
 
 pub check-held-spec : {M : Type 1} → statement M
 check-held-spec =
@@ -129,8 +130,8 @@ check-held-spec =
     μ-loop2
     Inv-loop
     μ-loop
-    size-of-requires
-    size-of-requires-2
+    at-most-16-requires
+    at-most-16-requires-2
     loop-holds
     prefix-requires
     loop2-holds

@@ -6,9 +6,9 @@ use borrow.Author.Needs.{needs}
 use Rattle.events.specs.Members.{has}
 use Rattle.codec.proofs.Loops.{times-next}
 use Rattle.codec_cursor.specs.Readers.{readPrefix, times}
-use Rattle.registry_verification.proofs.Listed.{has-more}
-use Rattle.registry_verification.proofs.deltas.found_in.Statement.{statement}
-use Rattle.registry_verification.proofs.deltas.found_in.Tie as tie
+use Rattle.registry_rotation.proofs.Listed.{has-more}
+use Rattle.registry_rotation.proofs.deltas.found_in.Statement.{statement}
+use Rattle.registry_rotation.proofs.deltas.found_in.Tie as tie
 
 abbrev Inv-loop : tie.InvT-loop
 Inv-loop s n x c₀ found₀ i₀ c found i =

@@ -14,11 +14,12 @@ use Rattle.events.proofs.Members.{view-size, view-at}
 use Rattle.events_tel.specs.TelEvents.{membersIn}
 use Rattle.codec.proofs.Loops.{times-next, view-put}
 use Rattle.codec_cursor.specs.Readers.{readPrefix, times}
-use Rattle.registry_verification.specs.Updated.{survivors, updatedMembers}
-use Rattle.registry_verification.proofs.Listed.{times-size, times-behind, all-listed}
-use Rattle.registry_verification.proofs.Survivors.{survivors-step}
-use Rattle.registry_verification.proofs.state.updated_members.Statement.{statement}
-use Rattle.registry_verification.proofs.state.updated_members.Tie as tie
+use Rattle.registry_rotation.specs.Updated.{survivors, updatedMembers}
+use Rattle.codec.proofs.Loops.{length-times}
+use Rattle.registry_rotation.proofs.Listed.{times-behind, all-listed}
+use Rattle.registry_rotation.proofs.Survivors.{survivors-step}
+use Rattle.registry_rotation.proofs.state.updated_members.Statement.{statement}
+use Rattle.registry_rotation.proofs.state.updated_members.Tie as tie
 
 abbrev Inv-loop : tie.InvT-loop
 Inv-loop s cuts additions current n out more items₀ count₀ i₀ items count i =
@@ -45,8 +46,8 @@ full : (c : tie.Start Inv-loop μ-loop Inv-loop2 μ-loop2) → length (c .args .
 full c = search length-mapped
 
 -- there are as many current members as the first loop looks at
-counted : (c : tie.After-size-of Inv-loop μ-loop Inv-loop2 μ-loop2) → length (view (c .before .before .args .t2)) ≡ c .size-of .result
-counted c = view-size (c .before .before .args .t2) (full (c .before .before)) ∙ sym (c .size-of .ensures)
+counted : (c : tie.After-at-most-16 Inv-loop μ-loop Inv-loop2 μ-loop2) → length (view (c .before .before .args .t2)) ≡ c .at-most-16 .result
+counted c = view-size (c .before .before .args .t2) (full (c .before .before)) ∙ sym (c .at-most-16 .ensures)
 
 -- what the first loop leaves: the survivors, and their number
 kept : (c : tie.After-loop Inv-loop μ-loop Inv-loop2 μ-loop2) → (take (c .before .loop .count) (c .before .loop .items) ≡ survivors (membersIn (now (c .before .before .before .before .before .before .before .args .s)) (c .before .before .before .before .before .before .before .args .cuts)) (view (c .before .before .before .before .before .before .before .args .t2))) × (length (survivors (membersIn (now (c .before .before .before .before .before .before .before .args .s)) (c .before .before .before .before .before .before .before .args .cuts)) (view (c .before .before .before .before .before .before .before .args .t2))) ≡ c .before .loop .count)
@@ -57,26 +58,26 @@ kept c =
     let cuts = membersIn (now (z .s)) (z .cuts) in
     let e : take (l .count) (l .items) ≡ survivors cuts (view (z .t2)) =
     l .inv .1
-    ∙ rw (all-listed (now (z .s)) (z .cuts) _ (c .before .before .before .before .size-of2 .ensures))
+    ∙ rw (all-listed (now (z .s)) (z .cuts) _ (c .before .before .before .before .at-most-162 .ensures))
     (ap (survivors _) (take-all (l .i) (view (z .t2)) (omega (arith, counted b)))) in
-    (e, sym (ap length e) ∙ length-take-le (l .count) (l .items) (omega (arith, l .inv .2, l .inv .3, b .size-of .ensures)))
+    (e, sym (ap length e) ∙ length-take-le (l .count) (l .items) (omega (arith, l .inv .2, l .inv .3, b .at-most-16 .ensures)))
 
 -- how many members there are then
-summed : (c : tie.After-loop Inv-loop μ-loop Inv-loop2 μ-loop2) → length (survivors (membersIn (now (c .before .before .before .before .before .before .before .args .s)) (c .before .before .before .before .before .before .before .args .cuts)) (view (c .before .before .before .before .before .before .before .args .t2)) ++ membersIn (now (c .before .before .before .before .before .before .before .args .s)) (c .before .before .before .before .before .before .before .args .additions)) ≡ c .before .loop .count + c .before .before .before .size-of3 .result
+summed : (c : tie.After-loop Inv-loop μ-loop Inv-loop2 μ-loop2) → length (survivors (membersIn (now (c .before .before .before .before .before .before .before .args .s)) (c .before .before .before .before .before .before .before .args .cuts)) (view (c .before .before .before .before .before .before .before .args .t2)) ++ membersIn (now (c .before .before .before .before .before .before .before .args .s)) (c .before .before .before .before .before .before .before .args .additions)) ≡ c .before .loop .count + c .before .before .before .at-most-163 .result
 summed c =
     let z = c .before .before .before .before .before .before .before .args in
-    let n = c .before .before .before .size-of3 in
+    let n = c .before .before .before .at-most-163 in
     length-append (survivors (membersIn (now (z .s)) (z .cuts)) (view (z .t2))) (membersIn (now (z .s)) (z .additions))
-    ∙ rw (kept c .1, all-listed (now (z .s)) (z .additions) _ (n .ensures), times-size readPrefix (now (z .s)) (z .additions .start) (n .result))
+    ∙ rw (kept c .1, all-listed (now (z .s)) (z .additions) _ (n .ensures), length-times readPrefix (now (z .s)) (z .additions .start) (n .result))
 
-size-of-requires : tie.Need-size-of-requires Inv-loop μ-loop Inv-loop2 μ-loop2
-size-of-requires c κs = search needs
+at-most-16-requires : tie.Need-at-most-16-requires Inv-loop μ-loop Inv-loop2 μ-loop2
+at-most-16-requires c κs = search needs
 
-size-of-requires-2 : tie.Need-size-of-requires-2 Inv-loop μ-loop Inv-loop2 μ-loop2
-size-of-requires-2 c κs = search needs
+at-most-16-requires-2 : tie.Need-at-most-16-requires-2 Inv-loop μ-loop Inv-loop2 μ-loop2
+at-most-16-requires-2 c κs = search needs
 
-size-of-requires-3 : tie.Need-size-of-requires-3 Inv-loop μ-loop Inv-loop2 μ-loop2
-size-of-requires-3 c κs = search needs
+at-most-16-requires-3 : tie.Need-at-most-16-requires-3 Inv-loop μ-loop Inv-loop2 μ-loop2
+at-most-16-requires-3 c κs = search needs
 
 none-requires : tie.Need-none-requires Inv-loop μ-loop Inv-loop2 μ-loop2
 none-requires c κs = search needs
@@ -114,12 +115,12 @@ loop-again c =
     let l = c .before .before .before .before .loop in
     let b = c .before .before .before .before .before .before .before .before in
     let z = b .before .before in
-    let cuts = times (c .before .before .before .before .before .before .before .size-of2 .result) readPrefix (now (z .args .s)) (z .args .cuts .start) .value in
+    let cuts = times (c .before .before .before .before .before .before .before .at-most-162 .result) readPrefix (now (z .args .s)) (z .args .cuts .start) .value in
     let h : l .i < length (view (z .args .t2)) = omega (arith, counted b) in
     let x = view-at (z .args .t2) (full z) (l .i) h in
     let e : has (at (view (z .args .t2)) (l .i)) cuts ≡ false = rw (← x, ← c .before .found-in .ensures) (not-true _ (c .if1 .taken)) in (
       search needs,
-      rw (survivors-step cuts (view (z .args .t2)) (l .i) h, e) (view-put (l .items) (l .count) _ (l .inv .3) (omega (arith, b .size-of .ensures)) ∙ rw (l .inv .1, x)),
+      rw (survivors-step cuts (view (z .args .t2)) (l .i) h, e) (view-put (l .items) (l .count) _ (l .inv .3) (omega (arith, b .at-most-16 .ensures)) ∙ rw (l .inv .1, x)),
       search needs,
       length-set (l .items) (l .count) _ ∙ l .inv .3,
     )
@@ -132,7 +133,7 @@ loop-again-2 c =
     let l = c .before .before .before .before .loop in
     let b = c .before .before .before .before .before .before .before .before in
     let z = b .before .before in
-    let cuts = times (c .before .before .before .before .before .before .before .size-of2 .result) readPrefix (now (z .args .s)) (z .args .cuts .start) .value in
+    let cuts = times (c .before .before .before .before .before .before .before .at-most-162 .result) readPrefix (now (z .args .s)) (z .args .cuts .start) .value in
     let h : l .i < length (view (z .args .t2)) = omega (arith, counted b) in
     let x = view-at (z .args .t2) (full z) (l .i) h in
     let e : has (at (view (z .args .t2)) (l .i)) cuts ≡ true = rw (← x, ← c .before .found-in .ensures) (not-false _ (c .if1 .left)) in
@@ -191,7 +192,7 @@ unfolding updatedMembers view
 returns-2 c =
     let l = c .before .loop2 in
     let a = c .before .before .before .before in
-    let n = c .before .before .before .before .before .before .before .size-of3 in
+    let n = c .before .before .before .before .before .before .before .at-most-163 in
     let z = a .before .before .before .before .before .before .before .args in
     let e : l .j ≡ n .result = omega (arith, l .inv .0) in (
       sym (le-leb (length (survivors (membersIn (now (z .s)) (z .cuts)) (view (z .t2)) ++ membersIn (now (z .s)) (z .additions))) 16 (omega (arith, summed a))),
@@ -209,9 +210,9 @@ updated-members-spec =
     μ-loop
     Inv-loop2
     μ-loop2
-    size-of-requires
-    size-of-requires-2
-    size-of-requires-3
+    at-most-16-requires
+    at-most-16-requires-2
+    at-most-16-requires-3
     none-requires
     loop-holds
     mul-p

@@ -2,8 +2,8 @@ use mathlib.Core.Path.{refl}
 use mathlib.Core.Bool.{false≢true}
 use borrow.Author.Needs.{needs}
 use Rattle.events.specs.Members.{checkDeltas}
-use Rattle.registry_verification.proofs.deltas.check_deltas.Statement.{statement}
-use Rattle.registry_verification.proofs.deltas.check_deltas.Tie as tie
+use Rattle.registry_rotation.proofs.deltas.check_deltas.Statement.{statement}
+use Rattle.registry_rotation.proofs.deltas.check_deltas.Tie as tie
 
 check-listed-requires : tie.Need-check-listed-requires
 check-listed-requires c κs = (refl, refl, λ e. refl)

@@ -11,9 +11,10 @@ use Rattle.events.proofs.Members.{check-found, all-sound}
 use Rattle.events_tel.specs.declared.tel.Listed.{Listed}
 use Rattle.codec.proofs.Loops.{times-next}
 use Rattle.codec_cursor.specs.Readers.{readPrefix, times}
-use Rattle.registry_verification.proofs.Listed.{times-size, all-listed, listed-breaks}
-use Rattle.registry_verification.proofs.deltas.check_listed.Statement.{statement}
-use Rattle.registry_verification.proofs.deltas.check_listed.Tie as tie
+use Rattle.codec.proofs.Loops.{length-times}
+use Rattle.registry_rotation.proofs.Listed.{all-listed, listed-breaks}
+use Rattle.registry_rotation.proofs.deltas.check_listed.Statement.{statement}
+use Rattle.registry_rotation.proofs.deltas.check_listed.Tie as tie
 
 abbrev Inv-loop : tie.InvT-loop
 Inv-loop s rule other repeat n m c₀ i₀ c i =
@@ -25,17 +26,17 @@ abbrev μ-loop : tie.MeasureT-loop
 μ-loop s rule other repeat n m c₀ i₀ c i = n - i
 
 -- whether the place breaks the rule is what was found
-place : (c : tie.After-found-in Inv-loop μ-loop) → breaks (c .before .before .before .before .before .before .before .before .before .args .rule) (times (c .before .before .before .before .before .before .before .size-of .result) readPrefix (now (c .before .before .before .before .before .before .before .before .before .args .s)) (c .before .before .before .before .before .before .before .before .before .args .list .start) .value) (cond (c .before .before .before .before .before .before .before .before .before .args .repeat) [] (times (c .before .before .before .before .before .before .size-of2 .result) readPrefix (now (c .before .before .before .before .before .before .before .before .before .args .s)) (c .before .before .before .before .before .before .before .before .before .args .other .start) .value)) (c .before .before .before .before .loop .i) ≡ c .found-in .result
+place : (c : tie.After-found-in Inv-loop μ-loop) → breaks (c .before .before .before .before .before .before .before .before .before .args .rule) (times (c .before .before .before .before .before .before .before .at-most-16 .result) readPrefix (now (c .before .before .before .before .before .before .before .before .before .args .s)) (c .before .before .before .before .before .before .before .before .before .args .list .start) .value) (cond (c .before .before .before .before .before .before .before .before .before .args .repeat) [] (times (c .before .before .before .before .before .before .at-most-162 .result) readPrefix (now (c .before .before .before .before .before .before .before .before .before .args .s)) (c .before .before .before .before .before .before .before .before .before .args .other .start) .value)) (c .before .before .before .before .loop .i) ≡ c .found-in .result
 place c =
     let l = c .before .before .before .before .loop in
     let z = c .before .before .before .before .before .before .before .before .before in
     listed-breaks (now (z .args .s)) _ _ (z .pre .0) (z .pre .1) _ _ _ (λ e. ap (λ (x : Listed). x .start) (z .pre .2 e)) _ (l .i) _ _ _ _ (omega arith) (l .inv .1) (c .before .before .prefix .ensures) (c .before .until .ensures) (c .found-in .ensures)
 
-size-of-requires : tie.Need-size-of-requires Inv-loop μ-loop
-size-of-requires c κs = search needs
+at-most-16-requires : tie.Need-at-most-16-requires Inv-loop μ-loop
+at-most-16-requires c κs = search needs
 
-size-of-requires-2 : tie.Need-size-of-requires-2 Inv-loop μ-loop
-size-of-requires-2 c κs = search needs
+at-most-16-requires-2 : tie.Need-at-most-16-requires-2 Inv-loop μ-loop
+at-most-16-requires-2 c κs = search needs
 
 loop-holds : tie.Need-loop-holds Inv-loop μ-loop
 unfolding times
@@ -56,8 +57,8 @@ returns c =
     let b2 = c .before .before .before .before .before .before .before in
     let b1 = b2 .before in
     let z = b1 .before .before .args in
-    rw (all-listed (now (z .s)) (z .list) _ (b1 .size-of .ensures), all-listed (now (z .s)) (z .other) _ (b2 .size-of2 .ensures))
-    (sym (check-found _ _ _ (l .i) (rw (times-size readPrefix (now (z .s)) (z .list .start) (b1 .size-of .result)) (omega arith)) (l .inv .2) (place (c .before) ∙ c .if1 .taken)))
+    rw (all-listed (now (z .s)) (z .list) _ (b1 .at-most-16 .ensures), all-listed (now (z .s)) (z .other) _ (b2 .at-most-162 .ensures))
+    (sym (check-found _ _ _ (l .i) (rw (length-times readPrefix (now (z .s)) (z .list .start) (b1 .at-most-16 .result)) (omega arith)) (l .inv .2) (place (c .before) ∙ c .if1 .taken)))
 
 add-i : tie.Need-add-i Inv-loop μ-loop
 add-i c = search needs
@@ -80,8 +81,8 @@ returns-2 c =
     let b2 = c .before .before .before in
     let b1 = b2 .before in
     let z = b1 .before .before .args in
-    rw (all-listed (now (z .s)) (z .list) _ (b1 .size-of .ensures), all-listed (now (z .s)) (z .other) _ (b2 .size-of2 .ensures))
-    (sym (all-sound _ _ _ (λ k h. l .inv .2 k (omega (arith, times-size readPrefix (now (z .s)) (z .list .start) (b1 .size-of .result))))))
+    rw (all-listed (now (z .s)) (z .list) _ (b1 .at-most-16 .ensures), all-listed (now (z .s)) (z .other) _ (b2 .at-most-162 .ensures))
+    (sym (all-sound _ _ _ (λ k h. l .inv .2 k (omega (arith, length-times readPrefix (now (z .s)) (z .list .start) (b1 .at-most-16 .result))))))
 
 pub check-listed-spec : {M : Type 1} → statement M
 check-listed-spec =
@@ -89,8 +90,8 @@ check-listed-spec =
     (tie.spec
     Inv-loop
     μ-loop
-    size-of-requires
-    size-of-requires-2
+    at-most-16-requires
+    at-most-16-requires-2
     loop-holds
     prefix-requires
     until-requires

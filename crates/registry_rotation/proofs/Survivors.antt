@@ -8,7 +8,7 @@ use lib.ListN.{length, take}
 use Rattle.laws.proofs.Views.{take-step}
 use Rattle.cesr.specs.declared.primitive.BasicPrefix.{BasicPrefix}
 use Rattle.events.specs.Members.{has, at, noPrefix}
-use Rattle.registry_verification.specs.Updated.{survivors}
+use Rattle.registry_rotation.specs.Updated.{survivors}
 
 survivors-snoc : (cuts a : List BasicPrefix) (x : BasicPrefix) → survivors cuts (a ++ (x ∷ [])) ≡ cond (has x cuts) (survivors cuts a) (survivors cuts a ++ (x ∷ []))
 unfolding survivors

@@ -1,8 +1,8 @@
 // The members after a rotation (docs/RULES.md, "Lists of backers").
 use crate::deltas::found_in;
-use crate::deltas::size_of;
 use cesr::primitive::BasicPrefix;
 use cesr::primitive::Matter;
+use codec::section::at_most_16;
 use events::member_set::Members;
 use events_tel::tel::Listed;
 ghost use mathlib.Core.Path.{_≡_};
@@ -12,7 +12,7 @@ ghost use lib.ListN.{length};
 ghost use lib.Dec.{leb};
 ghost use Rattle.events.specs.Members.{view};
 ghost use Rattle.events_tel.specs.TelEvents.{membersIn};
-ghost use Rattle.registry_verification.specs.Updated.{updatedMembers};
+ghost use Rattle.registry_rotation.specs.Updated.{updatedMembers};
 
 // Whether the members fit a list of 16, and the list where they do.
 pub struct Updated {
@@ -27,9 +27,9 @@ pub fn updated_members(s: &[u8], current: Members, cuts: Listed, additions: List
     ensures list { λ r. ⌜ view (r .members) ≡ cond (r .ok) (updatedMembers (view current) (membersIn (now (s .entry)) cuts) (membersIn (now (s .entry)) additions)) (view current) ⌝ }
     ensures count { λ r. ⌜ r .members .count ≤ 16 ⌝ }
 {
-    let n = size_of(current.count);
-    let out = size_of(cuts.count);
-    let more = size_of(additions.count);
+    let n = at_most_16(current.count);
+    let out = at_most_16(cuts.count);
+    let more = at_most_16(additions.count);
     let none = BasicPrefix(Matter::none());
     let mut items = [none; 16];
     let mut count: usize = 0;

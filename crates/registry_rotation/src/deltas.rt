@@ -1,24 +1,20 @@
 // The rules on a rotation's lists, which stay in the bytes (docs/RULES.md, "Lists of backers").
 use cesr::primitive::BasicPrefix;
+use codec::section::at_most_16;
 use codec_cursor::cursor::Cursor;
 use events::member_set::Members;
 use events::member_set::Membership;
 use events::member_set::Rule;
+use events::member_set::differs;
+use events::member_set::or_else;
+use events::member_set::until;
 use events_tel::tel::Listed;
 ghost use mathlib.Core.Path.{_≡_};
-ghost use mathlib.Core.Bool.{true, false, cond, not};
+ghost use mathlib.Core.Bool.{true, false, cond};
 ghost use mathlib.Core.List.{[]};
-ghost use Prim.Native.Nat.{min};
-ghost use Rattle.events.specs.Members.{view, has, isRepeat, isMissing, check, orElse, checkDeltas, checkCurrent};
+ghost use Rattle.events.specs.Members.{view, has, isRepeat, isMissing, check, checkDeltas, checkCurrent};
 ghost use Rattle.events_tel.specs.TelEvents.{membersIn};
 ghost use Rattle.codec_cursor.specs.Readers.{readPrefix, times};
-
-// How many members there are, whatever a count says. The count alone is handed in, since a list is copied at every call.
-pub(crate) fn size_of(count: usize) -> usize
-    ensures { λ r. ⌜ r ≡ min count 16 ⌝ }
-{
-    if 16 < count { 16 } else { count }
-}
 
 // Whether x is among the n prefixes that stand from a cursor on.
 pub(crate) fn found_in(s: &[u8], start: Cursor, n: usize, x: BasicPrefix) -> bool
@@ -36,23 +32,13 @@ pub(crate) fn found_in(s: &[u8], start: Cursor, n: usize, x: BasicPrefix) -> boo
     found
 }
 
-// How many the element at `i` is held against: for a repeat, those before it.
-fn until(repeat: bool, i: usize, n: usize) -> usize
-    ensures { λ r. ⌜ r ≡ cond repeat i n ⌝ }
-{
-    if repeat {
-        return i;
-    }
-    n
-}
-
 // A rule whose two lists are in the bytes. For a repeat they are the same.
 fn check_listed(s: &[u8], rule: Rule, list: Listed, other: Listed, repeat: bool) -> Membership
     requires { ⌜ (isRepeat rule ≡ repeat) × (isMissing rule ≡ false) × (repeat ≡ true → other ≡ list) ⌝ }
     ensures { λ r. ⌜ r ≡ check rule (membersIn (now (s .entry)) list) (cond repeat [] (membersIn (now (s .entry)) other)) ⌝ }
 {
-    let n = size_of(list.count);
-    let m = size_of(other.count);
+    let n = at_most_16(list.count);
+    let m = at_most_16(other.count);
     let mut c = list.start;
     let mut i: usize = 0;
     while i < n {
@@ -67,22 +53,13 @@ fn check_listed(s: &[u8], rule: Rule, list: Listed, other: Listed, repeat: bool)
     Membership::Sound
 }
 
-fn differs(found: bool, missing: bool) -> bool
-    ensures { λ r. ⌜ r ≡ cond missing (not found) found ⌝ }
-{
-    if missing {
-        return !found;
-    }
-    found
-}
-
 // A rule that holds a list in the bytes against the current members. The two loops are in one function, since the members are copied at every call.
 fn check_held(s: &[u8], rule: Rule, list: Listed, current: Members, missing: bool) -> Membership
     requires { ⌜ (isRepeat rule ≡ false) × (isMissing rule ≡ missing) ⌝ }
     ensures { λ r. ⌜ r ≡ check rule (membersIn (now (s .entry)) list) (view current) ⌝ }
 {
-    let n = size_of(list.count);
-    let m = size_of(current.count);
+    let n = at_most_16(list.count);
+    let m = at_most_16(current.count);
     let mut c = list.start;
     let mut i: usize = 0;
     while i < n {
@@ -101,16 +78,6 @@ fn check_held(s: &[u8], rule: Rule, list: Listed, current: Members, missing: boo
         i += 1;
     }
     Membership::Sound
-}
-
-// The first refusal of two.
-fn or_else(a: Membership, b: Membership) -> Membership
-    ensures { λ r. ⌜ r ≡ orElse a b ⌝ }
-{
-    match a {
-        Membership::Sound => b,
-        Membership::Broken { rule, at } => Membership::Broken { rule, at },
-    }
 }
 
 // No cut stands twice, no addition stands twice, and no cut is added.
