@@ -9,7 +9,7 @@ if [ -z "${TMPDIR:-}" ] && [ -w /dev/shm ] && [ "$(df --output=avail /dev/shm | 
     export TMPDIR=/dev/shm
 fi
 # Checks wait for each other in groups of this many; a larger group leaves less of a processor idle.
-export RT_JOBS="${RT_JOBS:-$((2 * $(nproc)))}"
+export RT_JOBS="${RT_JOBS:-$((3 * $(nproc)))}"
 rt fmt --check
 said=$(mktemp)
 trap 'rm -f "$said"' EXIT
