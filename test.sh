@@ -8,8 +8,6 @@ cd "$(dirname "$0")"
 if [ -z "${TMPDIR:-}" ] && [ -w /dev/shm ] && [ "$(df --output=avail /dev/shm | tail -n 1)" -gt 4000000 ]; then
     export TMPDIR=/dev/shm
 fi
-# Checks wait for each other in groups of this many; a larger group leaves less of a processor idle.
-export RT_JOBS="${RT_JOBS:-$((3 * $(nproc)))}"
 rt fmt --check
 said=$(mktemp)
 trap 'rm -f "$said"' EXIT
