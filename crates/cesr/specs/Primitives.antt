@@ -25,6 +25,10 @@ readMatter s at =
     (record { code = getD s at 0; w0 = number s (at + 1) 8; w1 = number s (at + 9) 8; w2 = number s (at + 17) 8; w3 = number s (at + 25) 8 })
     none
 
+-- the digest at a place, whatever its letter is
+abbrev pub saidAt : List ℕ → ℕ → Said
+saidAt s at = record { 0 = readMatter s at }
+
 -- equal when all 33 bytes are: the letter and the four words
 unfoldable pub eqMatter : Matter → Matter → Bool
 eqMatter a b = eqb (a .code) (b .code) && eqb (a .w0) (b .w0) && eqb (a .w1) (b .w1) && eqb (a .w2) (b .w2) && eqb (a .w3) (b .w3)

@@ -4,7 +4,7 @@ use crate::number::put_word;
 use crate::number::word;
 ghost use mathlib.Core.Path.{_≡_};
 ghost use Rattle.laws.specs.Room.{room, put};
-ghost use Rattle.cesr.specs.Primitives.{none, matterBytes, readMatter, eqMatter, eqSaid, eqPrefix, isBasic, isSaid};
+ghost use Rattle.cesr.specs.Primitives.{none, matterBytes, readMatter, saidAt, eqMatter, eqSaid, eqPrefix, isBasic, isSaid};
 
 // The material of a primitive, whatever its role: the code letter, and the 32 bytes as four big-endian words.
 #[repr(C)]
@@ -111,6 +111,13 @@ impl Matter {
 }
 
 impl Said {
+    // What stands at a place as a digest, whatever its letter is.
+    pub fn read(s: &[u8], at: usize) -> Said
+        ensures { λ r. ⌜ r ≡ saidAt (now (s .entry)) at ⌝ }
+    {
+        Said(Matter::read(s, at))
+    }
+
     pub fn same(self, other: Said) -> bool
         ensures { λ r. ⌜ r ≡ eqSaid self other ⌝ }
     {

@@ -1,13 +1,10 @@
 // An event: its kind byte, then six sections by kind (docs/RULES.md, "Bytes").
 use cesr::number::Sn;
-use cesr::primitive::Matter;
-use cesr::primitive::Said;
 use codec::section::pass_prefixes;
+use codec::section::pass_seal;
 use codec::section::read_configs;
-use codec::section::read_seal;
 use codec::section::read_toad;
 use codec_cursor::cursor::Cursor;
-use events::seal::Seal;
 use events_tel::config::Configs;
 use events_tel::tel::Kind;
 use events_tel::tel::Listed;
@@ -23,11 +20,10 @@ pub struct EventRead {
     pub next: Cursor,
 }
 
-// An event with its other fields blank. A kind that carries no seal has Digest there.
-fn blank(kind: Kind, said: Said, seal: Seal) -> TelEvent
-    ensures { λ r. ⌜ (r .kind ≡ kind) × (r .said ≡ said) × (r .seal ≡ seal) ⌝ }
+// An event with its other fields blank.
+fn blank(kind: Kind, said: usize) -> TelEvent
+    ensures { λ r. ⌜ (r .kind ≡ kind) × (r .said ≡ said) ⌝ }
 {
-    let none = Matter::none();
     let toad = Toad::from_wire(0);
     let configs = Configs::empty();
     let start = Cursor::start();
@@ -35,25 +31,35 @@ fn blank(kind: Kind, said: Said, seal: Seal) -> TelEvent
     TelEvent {
         kind,
         said,
-        issuer: none,
-        registry: Said(none),
-        credential: Said(none),
-        prior: Said(none),
+        issuer: 0,
+        registry: 0,
+        credential: 0,
+        prior: 0,
         sn: Sn { hi: 0, lo: 0 },
         toad,
         configs,
         backers: members,
         additions: members,
-        seal,
+        seal: start,
     }
 }
 
-fn with_saids(mut e: TelEvent, credential: Said, registry: Said, prior: Said) -> TelEvent
-    ensures { λ r. ⌜ (r .kind ≡ e .kind) × (r .said ≡ e .said) × (r .seal ≡ e .seal) × (r .credential ≡ credential) × (r .registry ≡ registry) × (r .prior ≡ prior) ⌝ }
+// A credential's event: where its digests and its seal stand.
+fn of_credential(
+    kind: Kind,
+    said: usize,
+    credential: usize,
+    registry: usize,
+    prior: usize,
+    seal: Cursor,
+) -> TelEvent
+    ensures { λ r. ⌜ (r .kind ≡ kind) × (r .said ≡ said) × (r .credential ≡ credential) × (r .registry ≡ registry) × (r .prior ≡ prior) × (r .seal ≡ seal) ⌝ }
 {
+    let mut e = blank(kind, said);
     e.credential = credential;
     e.registry = registry;
     e.prior = prior;
+    e.seal = seal;
     e
 }
 
@@ -67,18 +73,17 @@ fn pass_empty(c: Cursor, s: &[u8]) -> Cursor
 fn read_vcp(c: Cursor, s: &[u8]) -> EventRead
     ensures { λ r. ⌜ viewEventRead (now (s .entry)) r ≡ readVcp (now (s .entry)) c ⌝ }
 {
-    let vcp = c.count(s, 2).said(s);
-    let issuer = vcp.next.identifier(s);
-    let toad = read_toad(issuer.next.count(s, 1), s);
+    let vcp = c.count(s, 2);
+    let issuer = vcp.pass_said(s);
+    let toad = read_toad(issuer.pass_identifier(s).count(s, 1), s);
     let configs = read_configs(toad.next, s);
     let backers = pass_prefixes(configs.next, s);
     let next = backers.next.count(s, 0).count(s, 0);
-    let mut value = blank(Kind::Vcp, vcp.value, Seal::Digest);
-    let issuer = issuer.value;
+    let mut value = blank(Kind::Vcp, vcp.at);
     let toad = toad.value;
     let configs = configs.value;
     let backers = backers.value;
-    value.issuer = issuer;
+    value.issuer = issuer.at;
     value.toad = toad;
     value.configs = configs;
     value.backers = backers;
@@ -88,20 +93,21 @@ fn read_vcp(c: Cursor, s: &[u8]) -> EventRead
 fn read_vrt(c: Cursor, s: &[u8]) -> EventRead
     ensures { λ r. ⌜ viewEventRead (now (s .entry)) r ≡ readVrt (now (s .entry)) c ⌝ }
 {
-    let vrt = c.count(s, 3).said(s);
-    let registry = vrt.next.said(s);
-    let prior = registry.next.said(s);
-    let sn = prior.next.count(s, 2).sn(s);
+    let vrt = c.count(s, 3);
+    let registry = vrt.pass_said(s);
+    let prior = registry.pass_said(s);
+    let sn = prior.pass_said(s).count(s, 2).sn(s);
     let toad = read_toad(sn.next, s);
     let cuts = pass_prefixes(toad.next.count(s, 0), s);
     let additions = pass_prefixes(cuts.next, s);
     let next = additions.next.count(s, 0);
-    let e = blank(Kind::Vrt, vrt.value, Seal::Digest);
-    let mut value = with_saids(e, e.credential, registry.value, prior.value);
+    let mut value = blank(Kind::Vrt, vrt.at);
     let sn = sn.value;
     let toad = toad.value;
     let cuts = cuts.value;
     let additions = additions.value;
+    value.registry = registry.at;
+    value.prior = prior.at;
     value.sn = sn;
     value.toad = toad;
     value.backers = cuts;
@@ -112,53 +118,47 @@ fn read_vrt(c: Cursor, s: &[u8]) -> EventRead
 fn read_iss(c: Cursor, s: &[u8]) -> EventRead
     ensures { λ r. ⌜ viewEventRead (now (s .entry)) r ≡ readIss (now (s .entry)) c ⌝ }
 {
-    let iss = c.count(s, 3).said(s);
-    let credential = iss.next.said(s);
-    let registry = credential.next.said(s);
-    let next = pass_empty(registry.next, s).count(s, 0);
-    let e = blank(Kind::Iss, iss.value, Seal::Digest);
-    let value = with_saids(e, credential.value, registry.value, e.prior);
+    let iss = c.count(s, 3);
+    let credential = iss.pass_said(s);
+    let registry = credential.pass_said(s);
+    let next = pass_empty(registry.pass_said(s), s).count(s, 0);
+    let value = of_credential(Kind::Iss, iss.at, credential.at, registry.at, 0, c);
     EventRead { value, next }
 }
 
 fn read_rev(c: Cursor, s: &[u8]) -> EventRead
     ensures { λ r. ⌜ viewEventRead (now (s .entry)) r ≡ readRev (now (s .entry)) c ⌝ }
 {
-    let rev = c.count(s, 4).said(s);
-    let credential = rev.next.said(s);
-    let registry = credential.next.said(s);
-    let prior = registry.next.said(s);
-    let next = pass_empty(prior.next, s).count(s, 0);
-    let e = blank(Kind::Rev, rev.value, Seal::Digest);
-    let value = with_saids(e, credential.value, registry.value, prior.value);
+    let rev = c.count(s, 4);
+    let credential = rev.pass_said(s);
+    let registry = credential.pass_said(s);
+    let prior = registry.pass_said(s);
+    let next = pass_empty(prior.pass_said(s), s).count(s, 0);
+    let value = of_credential(Kind::Rev, rev.at, credential.at, registry.at, prior.at, c);
     EventRead { value, next }
 }
 
 fn read_bis(c: Cursor, s: &[u8]) -> EventRead
     ensures { λ r. ⌜ viewEventRead (now (s .entry)) r ≡ readBis (now (s .entry)) c ⌝ }
 {
-    let bis = c.count(s, 3).said(s);
-    let credential = bis.next.said(s);
-    let registry = credential.next.said(s);
-    let own = read_seal(pass_empty(registry.next, s).count(s, 1), s);
-    let seal = own.value;
-    let next = own.next;
-    let e = blank(Kind::Bis, bis.value, seal);
-    let value = with_saids(e, credential.value, registry.value, e.prior);
+    let bis = c.count(s, 3);
+    let credential = bis.pass_said(s);
+    let registry = credential.pass_said(s);
+    let seal = pass_empty(registry.pass_said(s), s).count(s, 1);
+    let next = pass_seal(seal, s);
+    let value = of_credential(Kind::Bis, bis.at, credential.at, registry.at, 0, seal);
     EventRead { value, next }
 }
 
 fn read_brv(c: Cursor, s: &[u8]) -> EventRead
     ensures { λ r. ⌜ viewEventRead (now (s .entry)) r ≡ readBrv (now (s .entry)) c ⌝ }
 {
-    let brv = c.count(s, 3).said(s);
-    let credential = brv.next.said(s);
-    let prior = credential.next.said(s);
-    let own = read_seal(pass_empty(prior.next, s).count(s, 1), s);
-    let seal = own.value;
-    let next = own.next;
-    let e = blank(Kind::Brv, brv.value, seal);
-    let value = with_saids(e, credential.value, e.registry, prior.value);
+    let brv = c.count(s, 3);
+    let credential = brv.pass_said(s);
+    let prior = credential.pass_said(s);
+    let seal = pass_empty(prior.pass_said(s), s).count(s, 1);
+    let next = pass_seal(seal, s);
+    let value = of_credential(Kind::Brv, brv.at, credential.at, 0, prior.at, seal);
     EventRead { value, next }
 }
 

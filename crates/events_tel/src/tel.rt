@@ -1,10 +1,7 @@
 // The six events of a registry and its credentials (docs/RULES.md, "Event kinds").
 use crate::config::Configs;
 use cesr::number::Sn;
-use cesr::primitive::Matter;
-use cesr::primitive::Said;
 use codec_cursor::cursor::Cursor;
-use events::seal::Seal;
 use events_toad::toad::Toad;
 ghost use mathlib.Core.Path.{_≡_};
 ghost use Rattle.events_tel.specs.TelEvents.{kindNumber, snOfKind};
@@ -24,15 +21,15 @@ pub struct Listed {
     pub start: Cursor,
 }
 
-// An event of any kind, flat: a field that the kind has no use for is blank. Its lists stay in the bytes, since they would be copied with the event at every call.
+// An event of any kind, flat: a field that the kind has no use for is blank. Digests, prefixes, lists and the seal stay in the bytes, and the event says where each stands, since they would be copied with it at every call.
 pub struct TelEvent {
     pub kind: Kind,
-    pub said: Said,
+    pub said: usize,
     // A vcp's issuer, an identifier.
-    pub issuer: Matter,
-    pub registry: Said,
-    pub credential: Said,
-    pub prior: Said,
+    pub issuer: usize,
+    pub registry: usize,
+    pub credential: usize,
+    pub prior: usize,
     // A vrt's own sequence number.
     pub sn: Sn,
     pub toad: Toad,
@@ -41,7 +38,7 @@ pub struct TelEvent {
     pub backers: Listed,
     pub additions: Listed,
     // The seal that a bis or brv carries itself.
-    pub seal: Seal,
+    pub seal: Cursor,
 }
 
 impl Kind {

@@ -2,6 +2,7 @@
 use crate::call::Named;
 use cesr::primitive::Matter;
 use cesr::primitive::Said;
+use codec::section::read_seal;
 use codec_cursor::cursor::Cursor;
 use codec_tel::tel::read_event;
 use events::identifier::Identifier;
@@ -9,10 +10,9 @@ use events::seal::Seal;
 use events_tel::tel::Kind;
 use events_tel::tel::TelEvent;
 use registry_wire::attempt::Attempt;
-ghost use Prim.Native.Nat.{ℕ};
 ghost use mathlib.Core.Path.{_≡_};
-ghost use mathlib.Core.List.{List, []};
-ghost use Rattle.events_tel.specs.TelEvents.{viewEvent};
+ghost use mathlib.Core.List.{[]};
+ghost use Rattle.codec_tel.specs.EventReads.{viewEvent};
 ghost use Rattle.registry_laws.specs.Pairs.{pairUnder, pairIn};
 ghost use Rattle.ledger_asked.specs.Names.{about, namedPair, namedEvent, headNamed, decodes};
 
@@ -71,19 +71,20 @@ fn about(kind: u8, registry: Said, credential: Said) -> Named
     }
 }
 
-fn named_event(e: TelEvent) -> Named
-    ensures { λ r. ⌜ ((s : List ℕ) → r ≡ namedEvent (viewEvent s e)) ⌝ }
+fn named_event(e: TelEvent, s: &[u8]) -> Named
+    ensures { λ r. ⌜ r ≡ namedEvent (viewEvent (now (s .entry)) e) ⌝ }
 {
     let none = Said(Matter::none());
-    let seal = e.seal;
+    let registry = Said::read(s, e.registry);
+    let credential = Said::read(s, e.credential);
     let kind = e.kind;
     match kind {
-        Kind::Vcp => about(1, e.said, none),
-        Kind::Vrt => about(2, e.registry, none),
-        Kind::Iss => about(3, e.registry, e.credential),
-        Kind::Rev => about(4, e.registry, e.credential),
-        Kind::Bis => about(3, e.registry, e.credential),
-        Kind::Brv => named_in(seal, e.credential),
+        Kind::Vcp => about(1, Said::read(s, e.said), none),
+        Kind::Vrt => about(2, registry, none),
+        Kind::Iss => about(3, registry, credential),
+        Kind::Rev => about(4, registry, credential),
+        Kind::Bis => about(3, registry, credential),
+        Kind::Brv => named_in(read_seal(e.seal, s).value, credential),
     }
 }
 
@@ -92,7 +93,7 @@ pub fn named(s: &[u8]) -> Named
     ensures { λ r. ⌜ r ≡ headNamed (now (s .entry)) ⌝ }
 {
     let e = read_event(Cursor::start(), s);
-    named_event(e.value)
+    named_event(e.value, s)
 }
 
 // Whether the bytes are an attempt.

@@ -1,4 +1,5 @@
 // The rotations of a registry (docs/RULES.md, "Orders", "Next states").
+use cesr::primitive::Said;
 use events::member_set::Members;
 use events_tel::tel::Kind;
 use registry_answer::answer::accept_if;
@@ -21,6 +22,7 @@ use registry_wire::attempt::Attempt;
 ghost use Prim.Native.Nat.{_≤_};
 ghost use mathlib.Core.Path.{_≡_};
 ghost use mathlib.Core.Bool.{true, false};
+ghost use Rattle.cesr.specs.Primitives.{saidAt};
 ghost use Rattle.events.specs.Members.{view};
 ghost use Rattle.events_tel.specs.TelEvents.{membersIn};
 ghost use Rattle.events_tel.specs.declared.tel.Kind.the-variants.{Vrt};
@@ -64,24 +66,20 @@ fn vrt_backers(current: Members, a: Attempt, s: &[u8]) -> Rotation
 // A vrt's checks behind its kind; backers is what the last five of them answer.
 fn vrt_answer(g: RegistryState, a: Attempt, s: &[u8], backers: Answer) -> Answer
     requires { ⌜ Anchored (now s) a × (backers ≡ vrtBackers (view (g .backers)) (a .event .toad .0) (membersIn (now s) (a .event .backers)) (membersIn (now s) (a .event .additions)) (signaturesIn (now s) (a .signatures))) ⌝ }
-    ensures { λ r. ⌜ r ≡ vrtAnswer (viewRegistry g) (a .event .said) (a .event .registry) (a .event .prior) (a .event .sn) (a .event .toad .0) (membersIn (now (s .entry)) (a .event .backers)) (membersIn (now (s .entry)) (a .event .additions)) (viewAttempt (now (s .entry)) a) ⌝ }
+    ensures { λ r. ⌜ r ≡ vrtAnswer (viewRegistry g) (saidAt (now (s .entry)) (a .event .said)) (saidAt (now (s .entry)) (a .event .registry)) (saidAt (now (s .entry)) (a .event .prior)) (a .event .sn) (a .event .toad .0) (membersIn (now (s .entry)) (a .event .backers)) (membersIn (now (s .entry)) (a .event .additions)) (viewAttempt (now (s .entry)) a) ⌝ }
 {
     let sn = a.event.sn;
-    let routed = accept_if(
-        a.event.registry.same(g.id),
-        RegistryRejection::InconsistentRegistry,
-    );
+    let registry = Said::read(s, a.event.registry);
+    let prior = Said::read(s, a.event.prior);
+    let routed = accept_if(registry.same(g.id), RegistryRejection::InconsistentRegistry);
     let flavor = accept_if(
         !is_backerless(g),
         RegistryRejection::RotationOnBackerlessRegistry,
     );
     let place = next_sn(g.sn, sn);
-    let prior = accept_if(
-        a.event.prior.same(g.latest),
-        RegistryRejection::PriorDigestMismatch,
-    );
-    let anchor = authenticate_issuer(a, s, g.issuer, a.event.registry, sn);
-    let late = or_else(prior, or_else(anchor, or_else(backers, Answer::Accepted)));
+    let behind = accept_if(prior.same(g.latest), RegistryRejection::PriorDigestMismatch);
+    let anchor = authenticate_issuer(a, s, g.issuer, registry, sn);
+    let late = or_else(behind, or_else(anchor, or_else(backers, Answer::Accepted)));
     or_else(routed, or_else(flavor, or_else(place, late)))
 }
 
@@ -96,7 +94,7 @@ fn rotate(g: RegistryState, a: Attempt, s: &[u8]) -> RegistryOutcome
     let id = g.id;
     let issuer = g.issuer;
     let sn = a.event.sn;
-    let latest = a.event.said;
+    let latest = Said::read(s, a.event.said);
     let toad = a.event.toad;
     let configs = g.configs;
     let backers = rotation.backers;

@@ -15,6 +15,7 @@ use registry_wire::attempt::Source;
 ghost use Prim.Native.Nat.{ℕ};
 ghost use mathlib.Core.Path.{_≡_};
 ghost use mathlib.Core.List.{List};
+ghost use Rattle.cesr.specs.Primitives.{saidAt};
 ghost use Rattle.cesr.specs.declared.primitive.Matter.{Matter as MatterValue};
 ghost use Rattle.registry_state.specs.States.{optional};
 ghost use Rattle.codec_cursor.specs.declared.cursor.Cursor.{Cursor};
@@ -79,41 +80,27 @@ pub fn verify_kel_anchor<'a>(
 
 // The message's anchoring event alone: of vcp, bis and brv.
 pub fn message_anchored(a: Attempt, s: &[u8], issuer: Matter, id: Said, sn: Sn) -> Answer
-    ensures { λ r. ⌜ r ≡ anchoredIn issuer id sn (a .event .said) (sourcesIn a) (partOf (now (s .entry)) (a .anchor)) ⌝ }
+    ensures { λ r. ⌜ r ≡ anchoredIn issuer id sn (saidAt (now (s .entry)) (a .event .said)) (sourcesIn (now (s .entry)) a) (partOf (now (s .entry)) (a .anchor)) ⌝ }
 {
     let none = Part { from: 0, to: 0 };
     let evidence = none.bytes(s);
     let message = a.anchor.bytes(s);
-    verify_kel_anchor(
-        evidence,
-        message,
-        a.sources,
-        a.source,
-        issuer,
-        id,
-        sn,
-        a.event.said,
-    )
+    let source = Source::read(a.source, s);
+    let said = Said::read(s, a.event.said);
+    verify_kel_anchor(evidence, message, a.sources, source, issuer, id, sn, said)
 }
 
 // The issuer's evidence, and the anchoring event that it carries, else the message's: of vrt, iss and rev.
 pub fn authenticate_issuer(a: Attempt, s: &[u8], issuer: Matter, id: Said, sn: Sn) -> Answer
-    ensures { λ r. ⌜ r ≡ authenticateIn issuer id sn (a .event .said) (evidenceIn (now (s .entry)) a) (sourcesIn a) (chosenEvent (partOf (now (s .entry)) (a .carried)) (partOf (now (s .entry)) (a .anchor))) ⌝ }
+    ensures { λ r. ⌜ r ≡ authenticateIn issuer id sn (saidAt (now (s .entry)) (a .event .said)) (evidenceIn (now (s .entry)) a) (sourcesIn (now (s .entry)) a) (chosenEvent (partOf (now (s .entry)) (a .carried)) (partOf (now (s .entry)) (a .anchor))) ⌝ }
 {
     let kind = issuer_kind(a.evidence);
-    let named = names_issuer(a.evidence, a.issuer, issuer);
+    let named = names_issuer(a.evidence, Matter::read(s, a.issuer), issuer);
     let prefix = accept_if(named, RegistryRejection::InconsistentIssuer);
     let evidence = a.carried.bytes(s);
     let message = a.anchor.bytes(s);
-    let anchor = verify_kel_anchor(
-        evidence,
-        message,
-        a.sources,
-        a.source,
-        issuer,
-        id,
-        sn,
-        a.event.said,
-    );
+    let source = Source::read(a.source, s);
+    let said = Said::read(s, a.event.said);
+    let anchor = verify_kel_anchor(evidence, message, a.sources, source, issuer, id, sn, said);
     or_else(kind, or_else(prefix, or_else(anchor, Answer::Accepted)))
 }

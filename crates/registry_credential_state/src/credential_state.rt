@@ -1,6 +1,7 @@
 // The fold of a credential's next event, its revocation (docs/RULES.md, "Orders", "Next states").
 use cesr::number::Sn;
 use cesr::primitive::Said;
+use codec::section::read_seal;
 use events_tel::tel::Kind;
 use registry_answer::answer::accept_if;
 use registry_answer::answer::accepts;
@@ -19,7 +20,8 @@ use registry_state::state::RegistryState;
 use registry_verification::sequence::next_sn;
 use registry_wire::attempt::Attempt;
 ghost use mathlib.Core.Path.{_≡_};
-ghost use Rattle.events_tel.specs.TelEvents.{viewEvent};
+ghost use Rattle.cesr.specs.Primitives.{saidAt};
+ghost use Rattle.codec_tel.specs.EventReads.{sealAt, viewEvent};
 ghost use Rattle.registry_state.specs.States.{viewRegistry};
 ghost use Rattle.registry_wire.specs.Attempts.{viewAttempt};
 ghost use Rattle.registry_authentication.specs.Issuers.{Anchored};
@@ -43,19 +45,19 @@ fn transition(w: CredentialState, credential: Said, prior: Said) -> Answer
 // A rev's checks behind its kind.
 fn rev_answer(g: RegistryState, w: CredentialState, a: Attempt, s: &[u8]) -> Answer
     requires { ⌜ Anchored (now s) a ⌝ }
-    ensures { λ r. ⌜ r ≡ revAnswer (viewRegistry g) w (a .event .said) (a .event .credential) (a .event .registry) (a .event .prior) (viewAttempt (now (s .entry)) a) ⌝ }
+    ensures { λ r. ⌜ r ≡ revAnswer (viewRegistry g) w (saidAt (now (s .entry)) (a .event .said)) (saidAt (now (s .entry)) (a .event .credential)) (saidAt (now (s .entry)) (a .event .registry)) (saidAt (now (s .entry)) (a .event .prior)) (viewAttempt (now (s .entry)) a) ⌝ }
 {
     let one = Sn { hi: 0, lo: 1 };
-    let routed = accept_if(
-        a.event.registry.same(g.id),
-        RegistryRejection::InconsistentRegistry,
-    );
+    let registry = Said::read(s, a.event.registry);
+    let credential = Said::read(s, a.event.credential);
+    let prior = Said::read(s, a.event.prior);
+    let routed = accept_if(registry.same(g.id), RegistryRejection::InconsistentRegistry);
     let flavor = accept_if(
         is_backerless(g),
         RegistryRejection::SimpleEventOnBackerRegistry,
     );
-    let anchor = authenticate_issuer(a, s, g.issuer, a.event.credential, one);
-    let last = transition(w, a.event.credential, a.event.prior);
+    let anchor = authenticate_issuer(a, s, g.issuer, credential, one);
+    let last = transition(w, credential, prior);
     or_else(
         routed,
         or_else(flavor, or_else(anchor, or_else(last, Answer::Accepted))),
@@ -65,11 +67,13 @@ fn rev_answer(g: RegistryState, w: CredentialState, a: Attempt, s: &[u8]) -> Ans
 // A brv's checks behind its kind.
 fn brv_answer(g: RegistryState, w: CredentialState, a: Attempt, s: &[u8]) -> Answer
     requires { ⌜ Anchored (now s) a ⌝ }
-    ensures { λ r. ⌜ r ≡ brvAnswer (viewRegistry g) w (a .event .said) (a .event .credential) (a .event .prior) (a .event .seal) (viewAttempt (now (s .entry)) a) ⌝ }
+    ensures { λ r. ⌜ r ≡ brvAnswer (viewRegistry g) w (saidAt (now (s .entry)) (a .event .said)) (saidAt (now (s .entry)) (a .event .credential)) (saidAt (now (s .entry)) (a .event .prior)) (sealAt (now (s .entry)) (a .event .seal)) (viewAttempt (now (s .entry)) a) ⌝ }
 {
     let one = Sn { hi: 0, lo: 1 };
-    let e = a.event;
-    let seal = e.seal;
+    let credential = Said::read(s, a.event.credential);
+    let prior = Said::read(s, a.event.prior);
+    let own = read_seal(a.event.seal, s);
+    let seal = own.value;
     let routed = accept_if(
         names_registry(seal, g.id),
         RegistryRejection::InconsistentRegistry,
@@ -78,9 +82,9 @@ fn brv_answer(g: RegistryState, w: CredentialState, a: Attempt, s: &[u8]) -> Ans
         !is_backerless(g),
         RegistryRejection::BackedEventOnBackerlessRegistry,
     );
-    let anchor = message_anchored(a, s, g.issuer, a.event.credential, one);
+    let anchor = message_anchored(a, s, g.issuer, credential, one);
     let backed = authenticate_backer(s, a.signatures, g, seal, a.evidence, a.management);
-    let last = transition(w, a.event.credential, a.event.prior);
+    let last = transition(w, credential, prior);
     let late = or_else(anchor, or_else(backed, or_else(last, Answer::Accepted)));
     or_else(routed, or_else(flavor, late))
 }
@@ -113,7 +117,7 @@ fn ingest_outcome(g: RegistryState, w: CredentialState, a: Attempt, s: &[u8]) ->
     if accepts(answer) {
         let registry = w.registry;
         let credential = w.credential;
-        let head = a.event.said;
+        let head = Said::read(s, a.event.said);
         let state = CredentialState {
             registry,
             credential,

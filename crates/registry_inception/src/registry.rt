@@ -1,5 +1,7 @@
 // The inception of a registry (docs/RULES.md, "Orders", "Next states").
 use cesr::number::Sn;
+use cesr::primitive::Matter;
+use cesr::primitive::Said;
 use codec::section::members_in;
 use events::member_set::MemberSet;
 use events::member_set::Members;
@@ -18,13 +20,14 @@ use registry_error::error::Answer;
 use registry_error::error::RegistryRejection;
 use registry_state::state::RegistryState;
 use registry_wire::attempt::Attempt;
-ghost use Prim.Native.Nat.{ℕ, _≤_};
+ghost use Prim.Native.Nat.{_≤_};
 ghost use mathlib.Core.Path.{_≡_};
-ghost use mathlib.Core.List.{List};
 ghost use mathlib.Core.Bool.{true};
+ghost use Rattle.cesr.specs.Primitives.{readMatter, saidAt};
+ghost use Rattle.codec_tel.specs.EventReads.{viewEvent};
 ghost use Rattle.events_tel.specs.Configs.{viewConfigs};
 ghost use Rattle.events.specs.Members.{view};
-ghost use Rattle.events_tel.specs.TelEvents.{membersIn, viewEvent};
+ghost use Rattle.events_tel.specs.TelEvents.{membersIn};
 ghost use Rattle.events_tel.specs.declared.tel.Kind.the-variants.{Vcp};
 ghost use Rattle.registry_state.specs.States.{viewRegistry, wellRegistry};
 ghost use Rattle.registry_wire.specs.Attempts.{viewAttempt};
@@ -49,19 +52,20 @@ pub fn threshold_fits(toad: Toad, backers: usize) -> Answer
 // A vcp's checks behind its kind; the backers are those of its list.
 fn vcp_answer(a: Attempt, s: &[u8], backers: Members) -> Answer
     requires { ⌜ Anchored (now s) a ⌝ }
-    ensures { λ r. ⌜ r ≡ vcpAnswer (a .event .said) (a .event .issuer) (a .event .toad .0) (viewConfigs (a .event .configs)) (view backers) (viewAttempt (now (s .entry)) a) ⌝ }
+    ensures { λ r. ⌜ r ≡ vcpAnswer (saidAt (now (s .entry)) (a .event .said)) (readMatter (now (s .entry)) (a .event .issuer)) (a .event .toad .0) (viewConfigs (a .event .configs)) (view backers) (viewAttempt (now (s .entry)) a) ⌝ }
 {
-    let issuer = a.event.issuer;
+    let said = Said::read(s, a.event.said);
+    let issuer = Matter::read(s, a.event.issuer);
     let toad = a.event.toad;
     let zero = Sn { hi: 0, lo: 0 };
-    let named = names_issuer(a.evidence, a.issuer, issuer);
+    let named = names_issuer(a.evidence, Matter::read(s, a.issuer), issuer);
     let prefix = accept_if(named, RegistryRejection::InconsistentIssuer);
     let count = backers.size();
     let clash = a.event.configs.no_backers() & !(count == 0);
     let flavor = accept_if(!clash, RegistryRejection::NoBackersWithBackers);
     let members = backer_set(MemberSet::check_members(backers));
     let threshold = threshold_fits(toad, count);
-    let anchor = message_anchored(a, s, issuer, a.event.said, zero);
+    let anchor = message_anchored(a, s, issuer, said, zero);
     let receipts = enough_receipts(s, a.signatures, count, toad);
     let late = or_else(anchor, or_else(receipts, Answer::Accepted));
     or_else(
@@ -87,13 +91,13 @@ fn incept_event(a: Attempt, s: &[u8], backers: Members) -> Answer
 }
 
 // The state that a vcp with these backers leaves.
-fn incepted(e: TelEvent, backers: Members) -> RegistryState
+fn incepted(e: TelEvent, s: &[u8], backers: Members) -> RegistryState
     requires { ⌜ backers .count ≤ 16 ⌝ }
-    ensures view { λ r. ⌜ ((s : List ℕ) → view backers ≡ membersIn s (e .backers) → e .kind ≡ Vcp → viewRegistry r ≡ incepted (viewEvent s e)) ⌝ }
+    ensures view { λ r. ⌜ (view backers ≡ membersIn (now (s .entry)) (e .backers) → e .kind ≡ Vcp → viewRegistry r ≡ incepted (viewEvent (now (s .entry)) e)) ⌝ }
     ensures counts { λ r. ⌜ (r .configs .count ≤ 8) × (r .backers .count ≤ 16) ⌝ }
 {
-    let said = e.said;
-    let issuer = e.issuer;
+    let said = Said::read(s, e.said);
+    let issuer = Matter::read(s, e.issuer);
     let toad = e.toad;
     let configs = e.configs.trimmed();
     RegistryState {
@@ -115,7 +119,7 @@ fn incept_outcome(a: Attempt, s: &[u8]) -> RegistryOutcome
     let backers = members_in(s, a.event.backers);
     let answer = or_else(issuer_kind(a.evidence), incept_event(a, s, backers));
     if accepts(answer) {
-        let state = incepted(a.event, backers);
+        let state = incepted(a.event, s, backers);
         return RegistryOutcome { answer, state };
     }
     let state = RegistryState::none();

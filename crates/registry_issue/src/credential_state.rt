@@ -1,6 +1,7 @@
 // The fold of a credential's first event, its issue (docs/RULES.md, "Orders", "Next states").
 use cesr::number::Sn;
 use cesr::primitive::Said;
+use codec::section::read_seal;
 use events_tel::tel::Kind;
 use events_tel::tel::TelEvent;
 use registry_answer::answer::accept_if;
@@ -15,10 +16,9 @@ use registry_error::error::RegistryRejection;
 use registry_state::state::CredentialState;
 use registry_state::state::RegistryState;
 use registry_wire::attempt::Attempt;
-ghost use Prim.Native.Nat.{ℕ};
 ghost use mathlib.Core.Path.{_≡_};
-ghost use mathlib.Core.List.{List};
-ghost use Rattle.events_tel.specs.TelEvents.{viewEvent};
+ghost use Rattle.cesr.specs.Primitives.{saidAt};
+ghost use Rattle.codec_tel.specs.EventReads.{sealAt, viewEvent};
 ghost use Rattle.registry_state.specs.States.{viewRegistry};
 ghost use Rattle.registry_wire.specs.Attempts.{viewAttempt};
 ghost use Rattle.registry_error.specs.declared.error.Answer.the-variants.{Rejected};
@@ -34,38 +34,36 @@ pub struct CredentialOutcome {
 // An iss's checks behind its kind.
 fn iss_answer(g: RegistryState, a: Attempt, s: &[u8]) -> Answer
     requires { ⌜ Anchored (now s) a ⌝ }
-    ensures { λ r. ⌜ r ≡ issAnswer (viewRegistry g) (a .event .said) (a .event .credential) (a .event .registry) (viewAttempt (now (s .entry)) a) ⌝ }
+    ensures { λ r. ⌜ r ≡ issAnswer (viewRegistry g) (saidAt (now (s .entry)) (a .event .said)) (saidAt (now (s .entry)) (a .event .credential)) (saidAt (now (s .entry)) (a .event .registry)) (viewAttempt (now (s .entry)) a) ⌝ }
 {
     let zero = Sn { hi: 0, lo: 0 };
-    let routed = accept_if(
-        a.event.registry.same(g.id),
-        RegistryRejection::InconsistentRegistry,
-    );
+    let registry = Said::read(s, a.event.registry);
+    let credential = Said::read(s, a.event.credential);
+    let routed = accept_if(registry.same(g.id), RegistryRejection::InconsistentRegistry);
     let flavor = accept_if(
         is_backerless(g),
         RegistryRejection::SimpleEventOnBackerRegistry,
     );
-    let anchor = authenticate_issuer(a, s, g.issuer, a.event.credential, zero);
+    let anchor = authenticate_issuer(a, s, g.issuer, credential, zero);
     or_else(routed, or_else(flavor, or_else(anchor, Answer::Accepted)))
 }
 
 // A bis's checks behind its kind.
 fn bis_answer(g: RegistryState, a: Attempt, s: &[u8]) -> Answer
     requires { ⌜ Anchored (now s) a ⌝ }
-    ensures { λ r. ⌜ r ≡ bisAnswer (viewRegistry g) (a .event .said) (a .event .credential) (a .event .registry) (a .event .seal) (viewAttempt (now (s .entry)) a) ⌝ }
+    ensures { λ r. ⌜ r ≡ bisAnswer (viewRegistry g) (saidAt (now (s .entry)) (a .event .said)) (saidAt (now (s .entry)) (a .event .credential)) (saidAt (now (s .entry)) (a .event .registry)) (sealAt (now (s .entry)) (a .event .seal)) (viewAttempt (now (s .entry)) a) ⌝ }
 {
     let zero = Sn { hi: 0, lo: 0 };
-    let e = a.event;
-    let seal = e.seal;
-    let routed = accept_if(
-        a.event.registry.same(g.id),
-        RegistryRejection::InconsistentRegistry,
-    );
+    let registry = Said::read(s, a.event.registry);
+    let credential = Said::read(s, a.event.credential);
+    let own = read_seal(a.event.seal, s);
+    let seal = own.value;
+    let routed = accept_if(registry.same(g.id), RegistryRejection::InconsistentRegistry);
     let flavor = accept_if(
         !is_backerless(g),
         RegistryRejection::BackedEventOnBackerlessRegistry,
     );
-    let anchor = message_anchored(a, s, g.issuer, a.event.credential, zero);
+    let anchor = message_anchored(a, s, g.issuer, credential, zero);
     let backed = authenticate_backer(s, a.signatures, g, seal, a.evidence, a.management);
     or_else(
         routed,
@@ -90,11 +88,11 @@ fn incept_event(g: RegistryState, a: Attempt, s: &[u8]) -> Answer
 }
 
 // The state that an issue leaves: blank for another kind.
-fn issued(registry: Said, e: TelEvent) -> CredentialState
-    ensures { λ r. ⌜ ((s : List ℕ) → r ≡ issued registry (viewEvent s e)) ⌝ }
+fn issued(registry: Said, e: TelEvent, s: &[u8]) -> CredentialState
+    ensures { λ r. ⌜ r ≡ issued registry (viewEvent (now (s .entry)) e) ⌝ }
 {
-    let credential = e.credential;
-    let head = e.said;
+    let credential = Said::read(s, e.credential);
+    let head = Said::read(s, e.said);
     let first = CredentialState {
         registry,
         credential,
@@ -118,7 +116,7 @@ fn incept_outcome(g: RegistryState, a: Attempt, s: &[u8]) -> CredentialOutcome
 {
     let answer = incept_event(g, a, s);
     if accepts(answer) {
-        let first = issued(g.id, a.event);
+        let first = issued(g.id, a.event, s);
         return CredentialOutcome {
             answer,
             state: first,

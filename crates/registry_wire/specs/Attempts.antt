@@ -6,15 +6,16 @@ use mathlib.Core.Bool.{Bool, true, cond, _&&_, _||_}
 use lib.Dec.{leb, eqb}
 use lib.ListN.{length, take, drop}
 use Rattle.cesr.specs.Numbers.{snBytes}
-use Rattle.cesr.specs.Primitives.{matterBytes}
+use Rattle.cesr.specs.Primitives.{matterBytes, readMatter}
 use Rattle.cesr.specs.declared.number.Sn.{Sn}
 use Rattle.cesr.specs.declared.primitive.Matter.{Matter}
 use Rattle.cesr.specs.declared.primitive.Said.{Said}
-use Rattle.events_tel.specs.TelEvents.{Event, viewEvent}
+use Rattle.events_tel.specs.TelEvents.{Event}
 use Rattle.events.specs.declared.seal.Seal.{Seal}
 use Rattle.codec_cursor.specs.declared.cursor.Cursor.{Cursor}
 use Rattle.codec_cursor.specs.Readers.{Read, Reader, placed, starting, need, readByte, readNumber, readIdentifier, readSaid, mapped, both, after, countUpTo, section}
 use Rattle.codec.specs.Events.{readSeal, readEvent}
+use Rattle.codec_tel.specs.EventReads.{viewEvent}
 use Rattle.codec.specs.Layout.{joined, sectionBytes, all, saidBytes, sealBytes, eventBytes, goodSaid, goodIdentifier, goodSn, goodSeal, goodEvent}
 use Rattle.registry_state.specs.States.{Registry, registryBytes, goodRegistry, readRegistry}
 use Rattle.registry_seals.specs.SignatureSections.{Signature, signatureBytes, goodSignature, readSignature, signaturesIn}
@@ -22,7 +23,6 @@ use Rattle.registry_wire.specs.declared.attempt.Source.{Source}
 use Rattle.registry_wire.specs.declared.attempt.Part.{Part}
 use Rattle.registry_wire.specs.declared.attempt.DecodedAttempt.{DecodedAttempt}
 use Rattle.registry_wire.specs.declared.attempt.Attempt.{Attempt}
-use Rattle.registry_wire.specs.declared.attempt.SourceRead.{SourceRead}
 use Rattle.registry_wire.specs.declared.attempt.SourcesRead.{SourcesRead}
 use Rattle.registry_wire.specs.declared.attempt.AnchorsRead.{AnchorsRead}
 use Rattle.registry_wire.specs.declared.attempt.EvidenceRead.{EvidenceRead}
@@ -147,8 +147,8 @@ decodeOf s =
 unfoldable pub anchorsIn : List ℕ → Part → List Anchor
 anchorsIn s p = cond (eqb (p .from) (p .to)) [] (readAnchor s (placed (p .from)) .value ∷ [])
 
-unfoldable pub sourcesIn : Attempt → List Source
-sourcesIn a = cond (eqb (a .sources) 0) [] (a .source ∷ [])
+unfoldable pub sourcesIn : List ℕ → Attempt → List Source
+sourcesIn s a = cond (eqb (a .sources) 0) [] (readSource s (a .source) .value ∷ [])
 
 -- by the evidence's byte: of Issuer the prefix and the part that it carries, of BackerAt the state
 unfoldable pub evidenceOf : List ℕ → ℕ → Matter → Part → Registry → Evidence
@@ -162,12 +162,12 @@ abbrev pub evidenceAs : List ℕ → ℕ → Matter → Part → Cursor → Evid
 evidenceAs s kind prefix carried management = evidenceOf s kind prefix carried (readRegistry s management .value)
 
 abbrev pub evidenceIn : List ℕ → Attempt → Evidence
-evidenceIn s a = evidenceAs s (a .evidence) (a .issuer) (a .carried) (a .management)
+evidenceIn s a = evidenceAs s (a .evidence) (readMatter s (a .issuer)) (a .carried) (a .management)
 
 abbrev pub viewAttempt : List ℕ → Attempt → Message
 viewAttempt s a =
     record
-    { event = viewEvent s (a .event); source = sourcesIn a; anchor = anchorsIn s (a .anchor); signatures = signaturesIn s (a .signatures); evidence = evidenceIn s a }
+    { event = viewEvent s (a .event); source = sourcesIn s a; anchor = anchorsIn s (a .anchor); signatures = signaturesIn s (a .signatures); evidence = evidenceIn s a }
 
 abbrev pub viewDecoded : List ℕ → DecodedAttempt → Decoded
 viewDecoded s r = cond (r .ok) (decoded (viewAttempt s (r .attempt))) malformed
@@ -178,11 +178,8 @@ chosenAnchors [] message = message
 chosenAnchors (x ∷ l) message = x ∷ l
 
 -- what the structs of the code stand for
-abbrev pub viewSource : SourceRead → Read Source
-viewSource r = record { value = r .value; next = r .next }
-
-abbrev pub viewSources : SourcesRead → Read (List Source)
-viewSources r = record { value = cond (eqb (r .count) 0) [] (r .source ∷ []); next = r .next }
+abbrev pub viewSources : List ℕ → SourcesRead → Read (List Source)
+viewSources s r = record { value = cond (eqb (r .count) 0) [] (readSource s (r .source) .value ∷ []); next = r .next }
 
 -- where a section's anchoring event stands, behind the count byte, and the cursor behind them
 unfoldable pub passedAnchors : List ℕ → Cursor → AnchorsRead
@@ -199,5 +196,5 @@ Holds s p = partOf s p ≡ joined anchorBytes (anchorsIn s p)
 -- evidence that was read: the cursor behind it, and, where that has not stopped, what it stands for
 pub record ReadAs (s : List ℕ) (r : EvidenceRead) (e : Read Evidence) : Type 0 where
   pub next : r .next ≡ e .next
-  pub value : r .next .ok ≡ true → evidenceAs s (r .kind) (r .issuer) (r .carried) (r .management) ≡ e .value
+  pub value : r .next .ok ≡ true → evidenceAs s (r .kind) (readMatter s (r .issuer)) (r .carried) (r .management) ≡ e .value
   pub holds : r .next .ok ≡ true → Holds s (r .carried)

@@ -1,6 +1,5 @@
 // An attempt: an event, its source, the message's anchoring event, signatures and evidence.
 use cesr::number::Sn;
-use cesr::primitive::Matter;
 use cesr::primitive::Said;
 use codec::section::count_up_to;
 use codec::section::pass_seals;
@@ -13,7 +12,7 @@ use registry_state::state::RegistryState;
 ghost use mathlib.Core.Path.{_≡_};
 ghost use mathlib.Core.Bool.{true};
 ghost use Rattle.codec_cursor.specs.Readers.{section};
-ghost use Rattle.registry_wire.specs.Attempts.{readSource, readAnchor, readIssuer, readBackerAt, readEvidence, viewSource, viewSources, passedAnchors, partOf, Holds, ReadAs, viewDecoded, decodeOf};
+ghost use Rattle.registry_wire.specs.Attempts.{readSource, readAnchor, readIssuer, readBackerAt, readEvidence, viewSources, passedAnchors, partOf, Holds, ReadAs, viewDecoded, decodeOf};
 
 // The sn and the said of the anchoring event, as the attempt states them.
 pub struct Source {
@@ -27,20 +26,20 @@ pub struct Part {
     pub to: usize,
 }
 
-// Lists of prefixes, anchoring events, signatures and the state of BackerAt stay in bytes.
+// All but numbers stays in the bytes, and the attempt says where it stands.
 pub struct Attempt {
     pub event: TelEvent,
-    // 0 or 1, and the source where it is 1.
+    // 0 or 1, and where the source stands where it is 1.
     pub sources: usize,
-    pub source: Source,
+    pub source: Cursor,
     pub anchor: Part,
     pub signatures: Counted,
     // 0 Missing, 1 Issuer, 2 Backer, 3 BackerAt.
     pub evidence: u8,
-    // Of Issuer, the prefix and the anchoring event that it carries.
-    pub issuer: Matter,
+    // Of Issuer, where its prefix stands, and the anchoring event that it carries.
+    pub issuer: usize,
     pub carried: Part,
-    // Of BackerAt, where its state stands in the bytes.
+    // Of BackerAt, where its state stands.
     pub management: Cursor,
 }
 
@@ -50,14 +49,9 @@ pub struct DecodedAttempt {
     pub attempt: Attempt,
 }
 
-struct SourceRead {
-    value: Source,
-    next: Cursor,
-}
-
 struct SourcesRead {
     count: usize,
-    source: Source,
+    source: Cursor,
     next: Cursor,
 }
 
@@ -69,7 +63,7 @@ struct AnchorsRead {
 // Evidence, in the fields of an attempt. Those that its kind has no use for are blank.
 struct EvidenceRead {
     kind: u8,
-    issuer: Matter,
+    issuer: usize,
     carried: Part,
     management: Cursor,
     next: Cursor,
@@ -97,46 +91,40 @@ impl Part {
 }
 
 impl Source {
-    // What stands where there is no source.
-    fn none() -> Source {
-        Source {
-            sn: Sn { hi: 0, lo: 0 },
-            said: Said(Matter::none()),
-        }
+    // The source that stands where the cursor is.
+    pub fn read(c: Cursor, s: &[u8]) -> Source
+        ensures { λ r. ⌜ r ≡ readSource (now (s .entry)) c .value ⌝ }
+    {
+        let n = c.sn(s);
+        let d = n.next.said(s);
+        let sn = n.value;
+        let said = d.value;
+        Source { sn, said }
+    }
+
+    // Behind it, where it keeps to its layout.
+    fn pass(c: Cursor, s: &[u8]) -> Cursor
+        ensures { λ r. ⌜ r ≡ readSource (now (s .entry)) c .next ⌝ }
+    {
+        c.advance(s, 16).pass_said(s)
     }
 }
 
-fn read_source(c: Cursor, s: &[u8]) -> SourceRead
-    ensures { λ r. ⌜ viewSource r ≡ readSource (now (s .entry)) c ⌝ }
-{
-    let n = c.sn(s);
-    let d = n.next.said(s);
-    let sn = n.value;
-    let said = d.value;
-    let next = d.next;
-    SourceRead {
-        value: Source { sn, said },
-        next,
-    }
-}
-
-// Section 7: at most one source.
-fn read_sources(c: Cursor, s: &[u8]) -> SourcesRead
-    ensures { λ r. ⌜ viewSources r ≡ section 1 readSource (now (s .entry)) c ⌝ }
+// Behind section 7: at most one source.
+fn pass_sources(c: Cursor, s: &[u8]) -> SourcesRead
+    ensures { λ r. ⌜ viewSources (now (s .entry)) r ≡ section 1 readSource (now (s .entry)) c ⌝ }
 {
     let n = count_up_to(c, s, 1);
     let count = n.value;
-    let start = n.next;
+    let source = n.next;
     if count == 0 {
         return SourcesRead {
             count,
-            source: Source::none(),
-            next: start,
+            source,
+            next: source,
         };
     }
-    let r = read_source(start, s);
-    let source = r.value;
-    let next = r.next;
+    let next = Source::pass(source, s);
     SourcesRead {
         count,
         source,
@@ -177,15 +165,13 @@ fn pass_anchors(c: Cursor, s: &[u8]) -> AnchorsRead
 fn read_issuer(c: Cursor, s: &[u8]) -> EvidenceRead
     ensures { λ r. ⌜ ReadAs (now (s .entry)) r (readIssuer (now (s .entry)) c) ⌝ }
 {
-    let i = c.identifier(s);
-    let a = pass_anchors(i.next, s);
-    let issuer = i.value;
+    let a = pass_anchors(c.pass_identifier(s), s);
     let carried = a.value;
     let next = a.next;
     let management = Cursor::start();
     EvidenceRead {
         kind: 1,
-        issuer,
+        issuer: c.at,
         carried,
         management,
         next,
@@ -199,7 +185,7 @@ fn read_backer_at(c: Cursor, s: &[u8]) -> EvidenceRead
     let next = RegistryState::pass(c, s);
     EvidenceRead {
         kind: 3,
-        issuer: Matter::none(),
+        issuer: 0,
         carried: Part { from: 0, to: 0 },
         management: c,
         next,
@@ -221,7 +207,7 @@ fn read_evidence(c: Cursor, s: &[u8]) -> EvidenceRead
     let management = Cursor::start();
     EvidenceRead {
         kind,
-        issuer: Matter::none(),
+        issuer: 0,
         carried: Part { from: 0, to: 0 },
         management,
         next,
@@ -235,7 +221,7 @@ impl Attempt {
         ensures parts { λ r. ⌜ (r .ok ≡ true → Holds (now (s .entry)) (r .attempt .anchor) × Holds (now (s .entry)) (r .attempt .carried)) ⌝ }
     {
         let e = read_event(Cursor::start(), s);
-        let o = read_sources(e.next, s);
+        let o = pass_sources(e.next, s);
         let a = pass_anchors(o.next, s);
         let g = pass_signatures(a.next, s);
         let v = read_evidence(g.next.count(s, 1), s);
@@ -244,7 +230,6 @@ impl Attempt {
         let source = o.source;
         let anchor = a.value;
         let signatures = g.value;
-        let issuer = v.issuer;
         let carried = v.carried;
         let management = v.management;
         DecodedAttempt {
@@ -256,7 +241,7 @@ impl Attempt {
                 anchor,
                 signatures,
                 evidence: v.kind,
-                issuer,
+                issuer: v.issuer,
                 carried,
                 management,
             },

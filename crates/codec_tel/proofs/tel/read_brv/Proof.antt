@@ -1,19 +1,20 @@
-use borrow.Author.Needs.{needs}
+use Rattle.codec_cursor.specs.Readers.{readIf, readSaid}
 use Rattle.codec.specs.Events.{readBrv}
+use borrow.Author.Needs.{needs}
 use Rattle.codec_tel.proofs.tel.read_brv.Statement.{statement}
 use Rattle.codec_tel.proofs.tel.read_brv.Tie as tie
 
 count-requires : tie.Need-count-requires
 count-requires c κs = search needs
 
-said-requires : tie.Need-said-requires
-said-requires c κs = search needs
+pass-said-requires : tie.Need-pass-said-requires
+pass-said-requires c κs = search needs
 
-said-requires-2 : tie.Need-said-requires-2
-said-requires-2 c κs = search needs
+pass-said-requires-2 : tie.Need-pass-said-requires-2
+pass-said-requires-2 c κs = search needs
 
-said-requires-3 : tie.Need-said-requires-3
-said-requires-3 c κs = search needs
+pass-said-requires-3 : tie.Need-pass-said-requires-3
+pass-said-requires-3 c κs = search needs
 
 pass-empty-requires : tie.Need-pass-empty-requires
 pass-empty-requires c κs = search needs
@@ -21,42 +22,36 @@ pass-empty-requires c κs = search needs
 count-requires-2 : tie.Need-count-requires-2
 count-requires-2 c κs = search needs
 
-read-seal-requires : tie.Need-read-seal-requires
-read-seal-requires c κs = search needs
+pass-seal-requires : tie.Need-pass-seal-requires
+pass-seal-requires c κs = search needs
 
-blank-requires : tie.Need-blank-requires
-blank-requires c κs = search needs
-
-with-saids-requires : tie.Need-with-saids-requires
-with-saids-requires c κs = search needs
+of-credential-requires : tie.Need-of-credential-requires
+of-credential-requires c κs = search needs
 
 returns : tie.Need-returns
-unfolding readBrv
+unfolding readBrv readSaid readIf
 returns c =
     let b1 = c .before in
-    let b3 = b1 .before .before in
+    let b2 = b1 .before in
+    let b3 = b2 .before in
     let b4 = b3 .before in
     let b5 = b4 .before in
     let b6 = b5 .before in
     let b7 = b6 .before in
-    let b8 = b7 .before in
-    let b9 = b8 .before in
+    let e = c .of-credential .ensures in
     rw (
-      ← b9 .count .ensures,
-      ← b8 .said .ensures,
-      ← b7 .said2 .ensures,
-      ← b6 .said3 .ensures,
-      ← b5 .pass-empty .ensures,
-      ← b4 .count2 .ensures,
-      ← b3 .read-seal .ensures,
-      c .with-saids .ensures .0,
-      b1 .blank .ensures .0,
-      c .with-saids .ensures .1,
-      b1 .blank .ensures .1,
-      c .with-saids .ensures .3,
-      c .with-saids .ensures .5,
-      c .with-saids .ensures .2,
-      b1 .blank .ensures .2,
+      ← b7 .count .ensures,
+      ← b6 .pass-said .ensures,
+      ← b5 .pass-said2 .ensures,
+      ← b4 .pass-said3 .ensures,
+      ← b3 .pass-empty .ensures,
+      ← b2 .count2 .ensures,
+      ← b1 .pass-seal .ensures,
+      e .0,
+      e .1,
+      e .2,
+      e .4,
+      e .5,
     )
 
 pub read-brv-spec : {M : Type 1} → statement M
@@ -64,12 +59,11 @@ read-brv-spec =
     tie.close
     (tie.spec
     count-requires
-    said-requires
-    said-requires-2
-    said-requires-3
+    pass-said-requires
+    pass-said-requires-2
+    pass-said-requires-3
     pass-empty-requires
     count-requires-2
-    read-seal-requires
-    blank-requires
-    with-saids-requires
+    pass-seal-requires
+    of-credential-requires
     returns)

@@ -1,19 +1,20 @@
-use borrow.Author.Needs.{needs}
+use Rattle.codec_cursor.specs.Readers.{readIf, readSaid}
 use Rattle.codec.specs.Events.{readIss}
+use borrow.Author.Needs.{needs}
 use Rattle.codec_tel.proofs.tel.read_iss.Statement.{statement}
 use Rattle.codec_tel.proofs.tel.read_iss.Tie as tie
 
 count-requires : tie.Need-count-requires
 count-requires c κs = search needs
 
-said-requires : tie.Need-said-requires
-said-requires c κs = search needs
+pass-said-requires : tie.Need-pass-said-requires
+pass-said-requires c κs = search needs
 
-said-requires-2 : tie.Need-said-requires-2
-said-requires-2 c κs = search needs
+pass-said-requires-2 : tie.Need-pass-said-requires-2
+pass-said-requires-2 c κs = search needs
 
-said-requires-3 : tie.Need-said-requires-3
-said-requires-3 c κs = search needs
+pass-said-requires-3 : tie.Need-pass-said-requires-3
+pass-said-requires-3 c κs = search needs
 
 pass-empty-requires : tie.Need-pass-empty-requires
 pass-empty-requires c κs = search needs
@@ -21,14 +22,11 @@ pass-empty-requires c κs = search needs
 count-requires-2 : tie.Need-count-requires-2
 count-requires-2 c κs = search needs
 
-blank-requires : tie.Need-blank-requires
-blank-requires c κs = search needs
-
-with-saids-requires : tie.Need-with-saids-requires
-with-saids-requires c κs = search needs
+of-credential-requires : tie.Need-of-credential-requires
+of-credential-requires c κs = search needs
 
 returns : tie.Need-returns
-unfolding readIss
+unfolding readIss readSaid readIf
 returns c =
     let b1 = c .before in
     let b2 = b1 .before in
@@ -36,20 +34,18 @@ returns c =
     let b4 = b3 .before in
     let b5 = b4 .before in
     let b6 = b5 .before in
-    let b7 = b6 .before in
+    let e = c .of-credential .ensures in
     rw (
-      ← b7 .count .ensures,
-      ← b6 .said .ensures,
-      ← b5 .said2 .ensures,
-      ← b4 .said3 .ensures,
-      ← b3 .pass-empty .ensures,
-      ← b2 .count2 .ensures,
-      c .with-saids .ensures .0,
-      b1 .blank .ensures .0,
-      c .with-saids .ensures .1,
-      b1 .blank .ensures .1,
-      c .with-saids .ensures .3,
-      c .with-saids .ensures .4,
+      ← b6 .count .ensures,
+      ← b5 .pass-said .ensures,
+      ← b4 .pass-said2 .ensures,
+      ← b3 .pass-said3 .ensures,
+      ← b2 .pass-empty .ensures,
+      ← b1 .count2 .ensures,
+      e .0,
+      e .1,
+      e .2,
+      e .3,
     )
 
 pub read-iss-spec : {M : Type 1} → statement M
@@ -57,11 +53,10 @@ read-iss-spec =
     tie.close
     (tie.spec
     count-requires
-    said-requires
-    said-requires-2
-    said-requires-3
+    pass-said-requires
+    pass-said-requires-2
+    pass-said-requires-3
     pass-empty-requires
     count-requires-2
-    blank-requires
-    with-saids-requires
+    of-credential-requires
     returns)

@@ -1,16 +1,17 @@
-use borrow.Author.Needs.{needs}
+use Rattle.codec_cursor.specs.Readers.{readIdentifier, readIf, readSaid}
 use Rattle.codec.specs.Events.{readVcp}
+use borrow.Author.Needs.{needs}
 use Rattle.codec_tel.proofs.tel.read_vcp.Statement.{statement}
 use Rattle.codec_tel.proofs.tel.read_vcp.Tie as tie
 
 count-requires : tie.Need-count-requires
 count-requires c κs = search needs
 
-said-requires : tie.Need-said-requires
-said-requires c κs = search needs
+pass-said-requires : tie.Need-pass-said-requires
+pass-said-requires c κs = search needs
 
-identifier-requires : tie.Need-identifier-requires
-identifier-requires c κs = search needs
+pass-identifier-requires : tie.Need-pass-identifier-requires
+pass-identifier-requires c κs = search needs
 
 count-requires-2 : tie.Need-count-requires-2
 count-requires-2 c κs = search needs
@@ -34,9 +35,10 @@ blank-requires : tie.Need-blank-requires
 blank-requires c κs = search needs
 
 returns : tie.Need-returns
-unfolding readVcp
+unfolding readVcp readSaid readIdentifier readIf
 returns c =
-    let b4 = c .before .before .before .before in
+    let b3 = c .before .before .before in
+    let b4 = b3 .before in
     let b5 = b4 .before in
     let b6 = b5 .before in
     let b7 = b6 .before in
@@ -45,19 +47,18 @@ returns c =
     let b10 = b9 .before in
     let b11 = b10 .before in
     let b12 = b11 .before in
-    let b13 = b12 .before in
     rw (
-      ← b13 .count .ensures,
-      ← b12 .said .ensures,
-      ← b11 .identifier .ensures,
-      ← b10 .count2 .ensures,
-      ← b9 .read-toad .ensures,
-      ← b8 .read-configs .ensures,
-      ← b7 .pass-prefixes .ensures,
-      ← b6 .count3 .ensures,
-      ← b5 .count4 .ensures,
-      b4 .blank .ensures .0,
-      b4 .blank .ensures .1,
+      ← b12 .count .ensures,
+      ← b11 .pass-said .ensures,
+      ← b10 .pass-identifier .ensures,
+      ← b9 .count2 .ensures,
+      ← b8 .read-toad .ensures,
+      ← b7 .read-configs .ensures,
+      ← b6 .pass-prefixes .ensures,
+      ← b5 .count3 .ensures,
+      ← b4 .count4 .ensures,
+      b3 .blank .ensures .0,
+      b3 .blank .ensures .1,
     )
 
 pub read-vcp-spec : {M : Type 1} → statement M
@@ -65,8 +66,8 @@ read-vcp-spec =
     tie.close
     (tie.spec
     count-requires
-    said-requires
-    identifier-requires
+    pass-said-requires
+    pass-identifier-requires
     count-requires-2
     read-toad-requires
     read-configs-requires

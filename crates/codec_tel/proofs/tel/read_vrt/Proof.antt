@@ -1,19 +1,20 @@
-use borrow.Author.Needs.{needs}
+use Rattle.codec_cursor.specs.Readers.{readIf, readSaid}
 use Rattle.codec.specs.Events.{readVrt}
+use borrow.Author.Needs.{needs}
 use Rattle.codec_tel.proofs.tel.read_vrt.Statement.{statement}
 use Rattle.codec_tel.proofs.tel.read_vrt.Tie as tie
 
 count-requires : tie.Need-count-requires
 count-requires c κs = search needs
 
-said-requires : tie.Need-said-requires
-said-requires c κs = search needs
+pass-said-requires : tie.Need-pass-said-requires
+pass-said-requires c κs = search needs
 
-said-requires-2 : tie.Need-said-requires-2
-said-requires-2 c κs = search needs
+pass-said-requires-2 : tie.Need-pass-said-requires-2
+pass-said-requires-2 c κs = search needs
 
-said-requires-3 : tie.Need-said-requires-3
-said-requires-3 c κs = search needs
+pass-said-requires-3 : tie.Need-pass-said-requires-3
+pass-said-requires-3 c κs = search needs
 
 count-requires-2 : tie.Need-count-requires-2
 count-requires-2 c κs = search needs
@@ -39,11 +40,8 @@ count-requires-4 c κs = search needs
 blank-requires : tie.Need-blank-requires
 blank-requires c κs = search needs
 
-with-saids-requires : tie.Need-with-saids-requires
-with-saids-requires c κs = search needs
-
 returns : tie.Need-returns
-unfolding readVrt
+unfolding readVrt readSaid readIf
 returns c =
     let b4 = c .before .before .before .before in
     let b5 = b4 .before in
@@ -57,25 +55,20 @@ returns c =
     let b13 = b12 .before in
     let b14 = b13 .before in
     let b15 = b14 .before in
-    let b16 = b15 .before in
     rw (
-      ← b16 .count .ensures,
-      ← b15 .said .ensures,
-      ← b14 .said2 .ensures,
-      ← b13 .said3 .ensures,
-      ← b12 .count2 .ensures,
-      ← b11 .sn .ensures,
-      ← b10 .read-toad .ensures,
-      ← b9 .count3 .ensures,
-      ← b8 .pass-prefixes .ensures,
-      ← b7 .pass-prefixes2 .ensures,
-      ← b6 .count4 .ensures,
-      b4 .with-saids .ensures .0,
-      b5 .blank .ensures .0,
-      b4 .with-saids .ensures .1,
-      b5 .blank .ensures .1,
-      b4 .with-saids .ensures .4,
-      b4 .with-saids .ensures .5,
+      ← b15 .count .ensures,
+      ← b14 .pass-said .ensures,
+      ← b13 .pass-said2 .ensures,
+      ← b12 .pass-said3 .ensures,
+      ← b11 .count2 .ensures,
+      ← b10 .sn .ensures,
+      ← b9 .read-toad .ensures,
+      ← b8 .count3 .ensures,
+      ← b7 .pass-prefixes .ensures,
+      ← b6 .pass-prefixes2 .ensures,
+      ← b5 .count4 .ensures,
+      b4 .blank .ensures .0,
+      b4 .blank .ensures .1,
     )
 
 pub read-vrt-spec : {M : Type 1} → statement M
@@ -83,9 +76,9 @@ read-vrt-spec =
     tie.close
     (tie.spec
     count-requires
-    said-requires
-    said-requires-2
-    said-requires-3
+    pass-said-requires
+    pass-said-requires-2
+    pass-said-requires-3
     count-requires-2
     sn-requires
     read-toad-requires
@@ -94,5 +87,4 @@ read-vrt-spec =
     pass-prefixes-requires-2
     count-requires-4
     blank-requires
-    with-saids-requires
     returns)
