@@ -14,11 +14,11 @@ use lib.Dec.{eqb, lit<}
 use lib.ListN.{length, length-append}
 use Rattle.laws.specs.Number.{Bytes}
 use Rattle.laws.proofs.Tests.{and-left}
-use Rattle.cesr.specs.declared.primitive.Matter.{Matter}
+use Rattle.cesr.specs.Primitives.{readMatter}
 use Rattle.cesr.proofs.Matters.{length-matter}
 use Rattle.events_tel.specs.TelEvents.{Event}
 use Rattle.codec_cursor.specs.declared.cursor.Cursor.{Cursor}
-use Rattle.codec_cursor.specs.Readers.{placed, Read, starting, need, readByte, readIdentifier, counted, times, countUpTo, section}
+use Rattle.codec_cursor.specs.Readers.{placed, Read, starting, need, readByte, readIf, readIdentifier, counted, times, countUpTo, section}
 use Rattle.codec.specs.Events.{readEvent}
 use Rattle.codec.specs.Layout.{joined}
 use Rattle.codec.proofs.Loops.{count-within}
@@ -100,24 +100,24 @@ unfolding partOf anchorsIn joined
 nothing-held s = refl
 
 module _ (s : List ℕ) (c : Cursor) where
-  pub issuer-read : Bytes s → (m : Read Matter) (a : AnchorsRead) (g : Cursor) → m ≡ readIdentifier s c → a ≡ passedAnchors s (m .next) → ReadAs s (record { kind = 1; issuer = m .value; carried = a .value; management = g; next = a .next }) (readIssuer s c)
-  unfolding readIssuer evidenceOf passedAnchors
-  issuer-read b m a g em ea =
-      let n : a .next ≡ readAnchors s (m .next) .next = ap (λ (x : AnchorsRead). x .next) ea in
+  pub issuer-read : Bytes s → (d : Cursor) (a : AnchorsRead) (g : Cursor) → d ≡ readIdentifier s c .next → a ≡ passedAnchors s d → ReadAs s (record { kind = 1; issuer = c .at; carried = a .value; management = g; next = a .next }) (readIssuer s c)
+  unfolding readIssuer readIdentifier readIf evidenceOf passedAnchors
+  issuer-read b d a g ed ea =
+      let n : a .next ≡ readAnchors s d .next = ap (λ (x : AnchorsRead). x .next) ea in
       record {
-        next = rw (← em) n;
+        next = rw (← ed) n;
         value = λ h.
-            rw (← em)
-            (ap (issuer (m .value))
-            (ap (λ (x : AnchorsRead). anchorsIn s (x .value)) ea ∙ anchors-in s (m .next) b (rw n at h)));
-        holds = λ h. subst (λ (x : AnchorsRead). Holds s (x .value)) (sym ea) (anchors-hold s (m .next) b (rw n at h));
+            rw (← ed)
+            (ap (issuer (readMatter s (c .at)))
+            (ap (λ (x : AnchorsRead). anchorsIn s (x .value)) ea ∙ anchors-in s d b (rw n at h)));
+        holds = λ h. subst (λ (x : AnchorsRead). Holds s (x .value)) (sym ea) (anchors-hold s d b (rw n at h));
       }
 
-  pub state-read : (d : Cursor) (m : Matter) → d ≡ readRegistry s c .next → ReadAs s (record { kind = 3; issuer = m; carried = nothing; management = c; next = d }) (readBackerAt s c)
+  pub state-read : (d : Cursor) (m : ℕ) → d ≡ readRegistry s c .next → ReadAs s (record { kind = 3; issuer = m; carried = nothing; management = c; next = d }) (readBackerAt s c)
   unfolding readBackerAt evidenceOf
   state-read d m e = record { next = e; value = λ h. refl; holds = λ h. nothing-held s }
 
-  pub plain-read : (k : ℕ) (m : Matter) (g d : Cursor) → (k ≡ 1 → ⊥) → (k ≡ 3 → ⊥) → d ≡ c → ReadAs s (record { kind = k; issuer = m; carried = nothing; management = g; next = d }) (record { value = cond (eqb k 2) backer missing; next = c })
+  pub plain-read : (k m : ℕ) (g d : Cursor) → (k ≡ 1 → ⊥) → (k ≡ 3 → ⊥) → d ≡ c → ReadAs s (record { kind = k; issuer = m; carried = nothing; management = g; next = d }) (record { value = cond (eqb k 2) backer missing; next = c })
   unfolding evidenceOf
   plain-read k m g d h l e = record { next = e; value = λ o. rw (ne-eqb k 1 h, ne-eqb k 3 l); holds = λ o. nothing-held s }
 
@@ -151,7 +151,7 @@ module _ (s : List ℕ) where
     signature-ok : signature-at .ok ≡ true
     signature-ok = codes-section readSignature signatureBytes goodSignature codes-signature 64 (lit< tt) .sound s signature-at b count-ok .ok
 
-  parts-read : Bytes s → (v : EvidenceRead) → ReadAs s v (readEvidence s evidence-at) → cond (v .next .ok && eqb (v .next .at) (length s)) (decoded (record { event = readEvent s starting .value; source = section 1 readSource s source-at .value; anchor = anchorsIn s (passedAnchors s anchor-at .value); signatures = signaturesIn s (passedSignatures s signature-at .value); evidence = evidenceAs s (v .kind) (v .issuer) (v .carried) (v .management) })) malformed ≡ decodeOf s
+  parts-read : Bytes s → (v : EvidenceRead) → ReadAs s v (readEvidence s evidence-at) → cond (v .next .ok && eqb (v .next .at) (length s)) (decoded (record { event = readEvent s starting .value; source = section 1 readSource s source-at .value; anchor = anchorsIn s (passedAnchors s anchor-at .value); signatures = signaturesIn s (passedSignatures s signature-at .value); evidence = evidenceAs s (v .kind) (readMatter s (v .issuer)) (v .carried) (v .management) })) malformed ≡ decodeOf s
   unfolding decodeOf readMessage
   parts-read b v r =
       rw (← r .next)
@@ -163,7 +163,7 @@ module _ (s : List ℕ) where
     unfolding passedAnchors passedSignatures
     last-read = rw (ed, eg, ea, eo, ee) at r
 
-    pub decode-read : (cond (v .next .ok && eqb (v .next .at) (length s)) (decoded (record { event = e .value; source = o .value; anchor = anchorsIn s (a .value); signatures = signaturesIn s (g .value); evidence = evidenceAs s (v .kind) (v .issuer) (v .carried) (v .management) })) malformed ≡ decodeOf s) × ((v .next .ok && eqb (v .next .at) (length s)) ≡ true → Holds s (a .value) × Holds s (v .carried))
+    pub decode-read : (cond (v .next .ok && eqb (v .next .at) (length s)) (decoded (record { event = e .value; source = o .value; anchor = anchorsIn s (a .value); signatures = signaturesIn s (g .value); evidence = evidenceAs s (v .kind) (readMatter s (v .issuer)) (v .carried) (v .management) })) malformed ≡ decodeOf s) × ((v .next .ok && eqb (v .next .at) (length s)) ≡ true → Holds s (a .value) × Holds s (v .carried))
     unfolding passedAnchors passedSignatures
     decode-read = (
       rw (eg, ea, eo, ee) (parts-read b v last-read),

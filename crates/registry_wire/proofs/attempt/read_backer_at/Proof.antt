@@ -6,11 +6,8 @@ use Rattle.registry_wire.proofs.attempt.read_backer_at.Tie as tie
 pass-requires : tie.Need-pass-requires
 pass-requires c κs = search needs
 
-none-requires : tie.Need-none-requires
-none-requires c κs = search needs
-
 returns : tie.Need-returns
-returns c = state-read _ _ _ _ (c .before .pass .ensures)
+returns c = state-read _ _ _ _ (c .pass .ensures)
 
 pub read-backer-at-spec : {M : Type 1} → statement M
-read-backer-at-spec = tie.close (tie.spec pass-requires none-requires returns)
+read-backer-at-spec = tie.close (tie.spec pass-requires returns)

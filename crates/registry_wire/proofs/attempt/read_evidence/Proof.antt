@@ -28,16 +28,13 @@ expect-that-requires c κs = search needs
 start-requires : tie.Need-start-requires
 start-requires c κs = search needs
 
-none-requires : tie.Need-none-requires
-none-requires c κs = search needs
-
 returns-3 : tie.Need-returns-3
 returns-3 c =
-    let b2 = c .before .before in
-    let b3 = b2 .before in
-    let n1 = b3 .before .if1 .left in
-    let n3 = b3 .if2 .left in
-    rw (evidence-plain _ _ _ (b3 .before .before .byte .ensures) n1 n3) (plain-read _ _ _ _ _ _ n1 n3 (b2 .expect-that .ensures))
+    let b1 = c .before in
+    let b2 = b1 .before in
+    let n1 = b2 .before .if1 .left in
+    let n3 = b2 .if2 .left in
+    rw (evidence-plain _ _ _ (b2 .before .before .byte .ensures) n1 n3) (plain-read _ _ _ _ _ _ n1 n3 (b1 .expect-that .ensures))
 
 pub read-evidence-spec : {M : Type 1} → statement M
 read-evidence-spec =
@@ -50,5 +47,4 @@ read-evidence-spec =
     returns-2
     expect-that-requires
     start-requires
-    none-requires
     returns-3)

@@ -4,8 +4,8 @@ use borrow.Author.Needs.{needs}
 use Rattle.registry_wire.proofs.attempt.read_issuer.Statement.{statement}
 use Rattle.registry_wire.proofs.attempt.read_issuer.Tie as tie
 
-identifier-requires : tie.Need-identifier-requires
-identifier-requires c κs = search needs
+pass-identifier-requires : tie.Need-pass-identifier-requires
+pass-identifier-requires c κs = search needs
 
 pass-anchors-requires : tie.Need-pass-anchors-requires
 pass-anchors-requires c κs = search needs
@@ -15,10 +15,10 @@ start-requires c κs = search needs
 
 returns : tie.Need-returns
 returns c =
-    let b4 = c .before .before .before .before in
-    let b5 = b4 .before in
-    issuer-read _ _ (λ i. omega (arith, b5 .before .shared-slice-known .given i)) _ _ _ (b5 .identifier .ensures) (b4 .pass-anchors .ensures)
+    let b3 = c .before .before .before in
+    let b4 = b3 .before in
+    issuer-read _ _ (λ i. omega (arith, b4 .before .shared-slice-known .given i)) _ _ _ (b4 .pass-identifier .ensures) (b3 .pass-anchors .ensures)
 
 pub read-issuer-spec : {M : Type 1} → statement M
 read-issuer-spec =
-    tie.close (tie.spec identifier-requires pass-anchors-requires start-requires returns)
+    tie.close (tie.spec pass-identifier-requires pass-anchors-requires start-requires returns)
