@@ -14,6 +14,7 @@ use lib.Dec.{eqb, leb}
 use lib.ListN.{length}
 use Rattle.laws.specs.Number.{Bytes}
 use Rattle.laws.proofs.Tests.{and-left, and-right}
+use Rattle.cesr.specs.Primitives.{readMatter}
 use Rattle.cesr.specs.declared.number.Sn.{Sn}
 use Rattle.cesr.specs.declared.primitive.Matter.{Matter}
 use Rattle.cesr.specs.declared.primitive.Said.{Said}
@@ -52,9 +53,9 @@ decoded-good s r b e ok =
     let h : decodeOf s ≡ decoded (viewAttempt s (r .attempt)) = sym e ∙ rw ok in
     decodes s (viewAttempt s (r .attempt)) b .0 h .1
 
-good-issuer : (s : List ℕ) (n : ℕ) (a : Attempt) → n ≡ 1 → goodEvidence (evidenceAs s n (a .issuer) (a .carried) (a .management)) ≡ true → goodAnchors (anchorsIn s (a .carried)) ≡ true
+good-issuer : (s : List ℕ) (n : ℕ) (a : Attempt) → n ≡ 1 → goodEvidence (evidenceAs s n (readMatter s (a .issuer)) (a .carried) (a .management)) ≡ true → goodAnchors (anchorsIn s (a .carried)) ≡ true
 unfolding evidenceOf
-good-issuer s n a e g = and-right (goodIdentifier (a .issuer)) (goodAnchors (anchorsIn s (a .carried))) (rw e at g)
+good-issuer s n a e g = and-right (goodIdentifier (readMatter s (a .issuer))) (goodAnchors (anchorsIn s (a .carried))) (rw e at g)
 
 pub anchored-parts : (s : List ℕ) (a : Attempt) → goodMessage (viewAttempt s a) ≡ true → Holds s (a .anchor) → Holds s (a .carried) → Anchored s a
 unfolding goodMessage
@@ -73,10 +74,10 @@ pub none-chosen : (s : List ℕ) (p : Part) (m : List ℕ) → p ≡ record { fr
 unfolding chosen partOf
 none-chosen s p m e = rw e
 
-pub message-in : (s : List ℕ) (a : Attempt) (i : Matter) (id : Said) (sn : Sn) (said : Said) → Bytes s → Anchored s a → anchoredIn i id sn said (sourcesIn a) (partOf s (a .anchor)) ≡ anchored i id sn said (sourcesIn a) (anchorsIn s (a .anchor))
+pub message-in : (s : List ℕ) (a : Attempt) (i : Matter) (id : Said) (sn : Sn) (said : Said) → Bytes s → Anchored s a → anchoredIn i id sn said (sourcesIn s a) (partOf s (a .anchor)) ≡ anchored i id sn said (sourcesIn s a) (anchorsIn s (a .anchor))
 message-in s a i id sn said b k =
     let w : Bytes (joined anchorBytes (anchorsIn s (a .anchor))) = subst Bytes (k .message) (part-bytes s (a .anchor) b) in
-    rw (k .message) (anchored-in i id sn said (sourcesIn a) (anchorsIn s (a .anchor)) w (k .good-message))
+    rw (k .message) (anchored-in i id sn said (sourcesIn s a) (anchorsIn s (a .anchor)) w (k .good-message))
 
 good-chosen : (l m : List Anchor) → goodAnchors l ≡ true → goodAnchors m ≡ true → goodAnchors (chosenAnchors l m) ≡ true
 good-chosen [] m g h = h
@@ -98,16 +99,16 @@ used-in s a i id sn said x b k e =
     rw u (anchored-in i id sn said x (chosenAnchors l m) (subst Bytes u w) (good-chosen l m (k .good-carried e) (k .good-message)))
 
 module _ (s : List ℕ) (a : Attempt) (i : Matter) (id : Said) (sn : Sn) (said : Said) (b : Bytes s) (k : Anchored s a) where
-  other-in : (t u : Bool) → eqb (a .evidence) 1 ≡ false → eqb (a .evidence) 3 ≡ t → eqb (a .evidence) 2 ≡ u → authenticateIn i id sn said (evidenceIn s a) (sourcesIn a) (chosen (partOf s (a .carried)) (partOf s (a .anchor))) ≡ authenticateIssuer i id sn said (viewAttempt s a)
+  other-in : (t u : Bool) → eqb (a .evidence) 1 ≡ false → eqb (a .evidence) 3 ≡ t → eqb (a .evidence) 2 ≡ u → authenticateIn i id sn said (evidenceIn s a) (sourcesIn s a) (chosen (partOf s (a .carried)) (partOf s (a .anchor))) ≡ authenticateIssuer i id sn said (viewAttempt s a)
   unfolding authenticateIn authenticateIssuer firstOf evidenceOf
   other-in true u e f h = rw (e, f)
   other-in false true e f h = rw (e, f, h)
   other-in false false e f h = rw (e, f, h)
 
-  by-kind : (t : Bool) → eqb (a .evidence) 1 ≡ t → authenticateIn i id sn said (evidenceIn s a) (sourcesIn a) (chosen (partOf s (a .carried)) (partOf s (a .anchor))) ≡ authenticateIssuer i id sn said (viewAttempt s a)
+  by-kind : (t : Bool) → eqb (a .evidence) 1 ≡ t → authenticateIn i id sn said (evidenceIn s a) (sourcesIn s a) (chosen (partOf s (a .carried)) (partOf s (a .anchor))) ≡ authenticateIssuer i id sn said (viewAttempt s a)
   unfolding authenticateIn authenticateIssuer firstOf evidenceOf
-  by-kind true e = rw (e, used-in s a i id sn said (sourcesIn a) b k (eqb-true (a .evidence) 1 e))
+  by-kind true e = rw (e, used-in s a i id sn said (sourcesIn s a) b k (eqb-true (a .evidence) 1 e))
   by-kind false e = other-in (eqb (a .evidence) 3) (eqb (a .evidence) 2) e refl refl
 
-  pub issuer-in : authenticateIn i id sn said (evidenceIn s a) (sourcesIn a) (chosen (partOf s (a .carried)) (partOf s (a .anchor))) ≡ authenticateIssuer i id sn said (viewAttempt s a)
+  pub issuer-in : authenticateIn i id sn said (evidenceIn s a) (sourcesIn s a) (chosen (partOf s (a .carried)) (partOf s (a .anchor))) ≡ authenticateIssuer i id sn said (viewAttempt s a)
   issuer-in = by-kind (eqb (a .evidence) 1) refl

@@ -1,4 +1,5 @@
 use denote.Ref.{now}
+use Rattle.cesr.specs.Primitives.{readMatter}
 use Rattle.registry_wire.specs.Attempts.{sourcesIn}
 use Rattle.registry_answer.specs.Answers.{firstOf}
 use Rattle.registry_authentication.specs.Issuers.{authenticateIn}
@@ -8,6 +9,9 @@ use Rattle.registry_authentication.proofs.issuer.authenticate_issuer.Ti
 
 issuer-kind-requires : tie.Need-issuer-kind-requires
 issuer-kind-requires c κs = search needs
+
+read-requires : tie.Need-read-requires
+read-requires c κs = search needs
 
 names-issuer-requires : tie.Need-names-issuer-requires
 names-issuer-requires c κs = search needs
@@ -20,6 +24,12 @@ bytes-requires c κs = search needs
 
 bytes-requires-2 : tie.Need-bytes-requires-2
 bytes-requires-2 c κs = search needs
+
+read-requires-2 : tie.Need-read-requires-2
+read-requires-2 c κs = search needs
+
+read-requires-3 : tie.Need-read-requires-3
+read-requires-3 c κs = search needs
 
 verify-kel-anchor-requires : tie.Need-verify-kel-anchor-requires
 verify-kel-anchor-requires c κs = search needs
@@ -37,9 +47,9 @@ returns : tie.Need-returns
 unfolding sourcesIn authenticateIn firstOf
 returns c =
     let b3 = c .before .before .before in
-    let b5 = b3 .before .before in
-    let b8 = b5 .before .before .before in
-    let z = b8 .before .before .args in
+    let b6 = b3 .before .before .before in
+    let b9 = b6 .before .before .before in
+    let z = b9 .before .before .before .before .args in
     let a = z .a in
     let s = now (z .s) in
     rw (
@@ -47,11 +57,14 @@ returns c =
       c .before .or-else2 .ensures,
       c .before .before .or-else .ensures,
       b3 .verify-kel-anchor .ensures,
-      b3 .before .bytes2 .ensures,
-      b5 .bytes .ensures,
-      b5 .before .accept-if .ensures,
-      b5 .before .before .names-issuer .ensures s (a .carried) (a .management),
-      b8 .issuer-kind .ensures s (a .issuer) (a .carried) (a .management),
+      b3 .before .read3 .ensures,
+      b3 .before .before .read2 .ensures,
+      b6 .bytes2 .ensures,
+      b6 .before .bytes .ensures,
+      b6 .before .before .accept-if .ensures,
+      b9 .names-issuer .ensures s (a .carried) (a .management),
+      b9 .before .read .ensures,
+      b9 .before .before .issuer-kind .ensures s (readMatter s (a .issuer)) (a .carried) (a .management),
     )
 
 pub authenticate-issuer-spec : {M : Type 1} → statement M
@@ -59,10 +72,13 @@ authenticate-issuer-spec =
     tie.close
     (tie.spec
     issuer-kind-requires
+    read-requires
     names-issuer-requires
     accept-if-requires
     bytes-requires
     bytes-requires-2
+    read-requires-2
+    read-requires-3
     verify-kel-anchor-requires
     or-else-requires
     or-else-requires-2
