@@ -6,7 +6,7 @@ use Prim.Native.Nat.{ℕ}
 use mathlib.Core.Path.{_≡_, refl}
 use mathlib.Core.List.{List}
 use mathlib.Core.Bool.{true, false, cond, _&&_}
-use Rattle.events_tel.specs.TelEvents.{eventAs}
+use Rattle.codec_tel.specs.EventReads.{eventAs}
 use Rattle.events_tel.specs.declared.tel.Kind.{Kind}
 use Rattle.events_tel.specs.declared.tel.Kind.the-variants.{Vcp, Vrt, Iss, Rev, Bis, Brv}
 use Rattle.events_tel.specs.declared.tel.TelEvent.{TelEvent}

@@ -1,3 +1,4 @@
+use Rattle.cesr.specs.Primitives.{readMatter}
 use denote.Ref.{now}
 use mathlib.Core.Path.{_≡_, sym, _∙_}
 use mathlib.Core.Bool.{true, false, false≢true}
@@ -37,10 +38,10 @@ returns c =
     let b7 = b4 .before .before in
     let a = b7 .args .a in
     let s = now (b7 .args .s) in
-    let e : b3 .or-else .result ≡ inceptAnswer (viewAttempt s a) = rw (b3 .or-else .ensures, b3 .before .incept-event .ensures, b3 .before .before .issuer-kind .ensures s (a .issuer) (a .carried) (a .management)) in
+    let e : b3 .or-else .result ≡ inceptAnswer (viewAttempt s a) = rw (b3 .or-else .ensures, b3 .before .incept-event .ensures, b3 .before .before .issuer-kind .ensures s (readMatter s (a .issuer)) (a .carried) (a .management)) in
     let h : accepts (b3 .or-else .result) ≡ true = sym (c .before .before .accepts .ensures) ∙ c .before .if1 .taken in
     let k : a .event .kind ≡ Vcp = incept-kind s a (rw e at h) in
-    (incept-accepted (viewAttempt s a) (b3 .or-else .result) (viewRegistry (c .incepted .result)) e h (c .incepted .ensures .0 s (b4 .members-in .ensures .0) k), (λ z. c .incepted .ensures .1))
+    (incept-accepted (viewAttempt s a) (b3 .or-else .result) (viewRegistry (c .incepted .result)) e h (c .incepted .ensures .0 (b4 .members-in .ensures .0) k), (λ z. c .incepted .ensures .1))
 
 none-requires : tie.Need-none-requires
 none-requires c κs = search needs
@@ -53,7 +54,7 @@ returns-2 c =
     let b7 = b4 .before .before in
     let a = b7 .args .a in
     let s = now (b7 .args .s) in
-    let e : b3 .or-else .result ≡ inceptAnswer (viewAttempt s a) = rw (b3 .or-else .ensures, b3 .before .incept-event .ensures, b3 .before .before .issuer-kind .ensures s (a .issuer) (a .carried) (a .management)) in
+    let e : b3 .or-else .result ≡ inceptAnswer (viewAttempt s a) = rw (b3 .or-else .ensures, b3 .before .incept-event .ensures, b3 .before .before .issuer-kind .ensures s (readMatter s (a .issuer)) (a .carried) (a .management)) in
     let h : accepts (b3 .or-else .result) ≡ false = sym (c .before .before .accepts .ensures) ∙ c .before .if1 .left in
     (incept-refused (viewAttempt s a) (b3 .or-else .result) (viewRegistry (c .none .result)) e h (c .none .ensures), (λ z. absurd (false≢true (sym h ∙ z))))
 

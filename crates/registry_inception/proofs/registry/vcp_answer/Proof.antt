@@ -1,14 +1,24 @@
+use denote.Ref.{now}
 use Prim.Native.Nat.{min}
 use mathlib.Core.Path.{_≡_}
 use native.Mathlib.Omega.{arith}
+use Rattle.cesr.specs.Primitives.{readMatter, saidAt}
 use Rattle.registry_authentication.proofs.AnchorUse.{message-in}
 use Rattle.events_tel.specs.TelEvents.{snZero}
-use denote.Ref.{now}
 use Rattle.registry_inception.specs.InceptionFolds.{vcpAnswer}
 use Rattle.registry_answer.specs.Answers.{firstOf}
 use borrow.Author.Needs.{needs}
 use Rattle.registry_inception.proofs.registry.vcp_answer.Statement.{statement}
 use Rattle.registry_inception.proofs.registry.vcp_answer.Tie as tie
+
+read-requires : tie.Need-read-requires
+read-requires c κs = search needs
+
+read-requires-2 : tie.Need-read-requires-2
+read-requires-2 c κs = search needs
+
+read-requires-3 : tie.Need-read-requires-3
+read-requires-3 c κs = search needs
 
 names-issuer-requires : tie.Need-names-issuer-requires
 names-issuer-requires c κs = search needs
@@ -65,9 +75,12 @@ returns c =
     let b6 = b3 .before .before .before in
     let b9 = b6 .before .before .before in
     let b12 = b9 .before .before .before in
-    let start = b12 .before .before .before .before .before .before in
+    let b15 = b12 .before .before .before in
+    let b18 = b15 .before .before .before in
+    let start = b18 .before .before in
     let z = start .before .args in
     let a = z .a in
+    let s = now (z .s) in
     let size = b12 .before .size in
     let few : min (size .result) 16 ≡ size .result = omega (arith, size .ensures .0, size .ensures .1) in
     rw (
@@ -77,24 +90,31 @@ returns c =
       c .before .before .before .or-else3 .ensures,
       b3 .before .or-else2 .ensures,
       b3 .before .before .or-else .ensures,
-      b3 .before .before .before .enough-receipts .ensures,
+      b6 .enough-receipts .ensures,
       b6 .before .message-anchored .ensures,
-      message-in (now (z .s)) a (a .event .issuer) (a .event .said) snZero (a .event .said) (λ i. omega (arith, start .shared-slice-known .given i)) (start .before .pre),
+      b18 .read2 .ensures,
+      b18 .before .read .ensures,
+      message-in s a (readMatter s (a .event .issuer)) (saidAt s (a .event .said)) snZero (saidAt s (a .event .said)) (λ i. omega (arith, start .shared-slice-known .given i)) (start .before .pre),
       b6 .before .before .threshold-fits .ensures,
-      b6 .before .before .before .backer-set .ensures,
+      b9 .backer-set .ensures,
       b9 .before .check-members .ensures .0,
       b9 .before .before .accept-if2 .ensures,
-      b9 .before .before .before .no-backers .ensures,
+      b12 .no-backers .ensures,
       few,
       size .ensures .0,
       b12 .before .before .accept-if .ensures,
-      b12 .before .before .before .names-issuer .ensures (now (z .s)) (a .carried) (a .management),
+      b15 .names-issuer .ensures s (a .carried) (a .management),
+      b15 .before .read3 .ensures,
+      b18 .read2 .ensures,
     )
 
 pub vcp-answer-spec : {M : Type 1} → statement M
 vcp-answer-spec =
     tie.close
     (tie.spec
+    read-requires
+    read-requires-2
+    read-requires-3
     names-issuer-requires
     accept-if-requires
     size-requires

@@ -1,5 +1,9 @@
+use mathlib.Core.Path.{ap}
+use Rattle.codec_cursor.specs.Readers.{Read}
+use Rattle.events.specs.declared.seal.Seal.{Seal}
 use denote.Ref.{now}
 use native.Mathlib.Omega.{arith}
+use Rattle.cesr.specs.Primitives.{readMatter, saidAt}
 use Rattle.registry_authentication.proofs.AnchorUse.{message-in}
 use Rattle.events_tel.specs.TelEvents.{snZero}
 use Rattle.registry_issue.specs.IssueFolds.{bisAnswer}
@@ -7,6 +11,15 @@ use Rattle.registry_answer.specs.Answers.{firstOf}
 use borrow.Author.Needs.{needs}
 use Rattle.registry_issue.proofs.credential_state.bis_answer.Statement.{statement}
 use Rattle.registry_issue.proofs.credential_state.bis_answer.Tie as tie
+
+read-requires : tie.Need-read-requires
+read-requires c κs = search needs
+
+read-requires-2 : tie.Need-read-requires-2
+read-requires-2 c κs = search needs
+
+read-seal-requires : tie.Need-read-seal-requires
+read-seal-requires c κs = search needs
 
 same-requires : tie.Need-same-requires
 same-requires c κs = search needs
@@ -41,29 +54,37 @@ or-else-requires-4 c κs = search needs
 returns : tie.Need-returns
 unfolding bisAnswer firstOf
 returns c =
-    let b3 = c .before .before .before in
-    let b6 = b3 .before .before .before in
-    let a = b6 .before .before .before .before .before .before .args .a in
-    let q = b6 .before .before .before .before .before .before .args in
+    let b4 = c .before .before .before .before in
+    let b7 = b4 .before .before .before in
+    let b10 = b7 .before .before .before in
+    let start = b10 .before .before .before .before in
+    let q = start .args in
+    let s = now (q .s) in
     let y = q .a in
     rw (
       c .or-else4 .ensures,
       c .before .or-else3 .ensures,
       c .before .before .or-else2 .ensures,
       c .before .before .before .or-else .ensures,
-      b3 .before .authenticate-backer .ensures (a .issuer) (a .carried),
-      b3 .before .before .message-anchored .ensures,
-      message-in (now (q .s)) y (q .g .issuer) (y .event .credential) snZero (y .event .said) (λ i. omega (arith, b6 .before .before .before .before .before .shared-slice-known .given i)) (b6 .before .before .before .before .before .before .pre),
-      b3 .before .before .before .accept-if2 .ensures,
-      b6 .before .is-backerless .ensures,
-      b6 .before .before .accept-if .ensures,
-      b6 .before .before .before .same .ensures,
+      b4 .authenticate-backer .ensures (readMatter s (y .issuer)) (y .carried),
+      ap (λ (r : Read Seal). r .value) (b10 .read-seal .ensures),
+      b4 .before .message-anchored .ensures,
+      b10 .before .read2 .ensures,
+      message-in s y (q .g .issuer) (saidAt s (y .event .credential)) snZero (saidAt s (y .event .said)) (λ i. omega (arith, b10 .before .before .before .shared-slice-known .given i)) (start .pre),
+      b4 .before .before .accept-if2 .ensures,
+      b7 .is-backerless .ensures,
+      b7 .before .accept-if .ensures,
+      b7 .before .before .same .ensures,
+      b10 .before .before .read .ensures,
     )
 
 pub bis-answer-spec : {M : Type 1} → statement M
 bis-answer-spec =
     tie.close
     (tie.spec
+    read-requires
+    read-requires-2
+    read-seal-requires
     same-requires
     accept-if-requires
     is-backerless-requires

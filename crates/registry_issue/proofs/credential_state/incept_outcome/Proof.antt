@@ -24,7 +24,7 @@ returns c =
     let z = b3 .before .before .args in
     let x = b3 .incept-event .result in
     let h : accepts x ≡ true = sym (c .before .before .accepts .ensures) ∙ c .before .if1 .taken in
-    incept-kept (viewRegistry (z .g)) (viewAttempt (now (z .s)) (z .a)) x (c .issued .result) (b3 .incept-event .ensures) (rw h (c .issued .ensures (now (z .s))))
+    incept-kept (viewRegistry (z .g)) (viewAttempt (now (z .s)) (z .a)) x (c .issued .result) (b3 .incept-event .ensures) (rw h (c .issued .ensures))
 
 none-requires : tie.Need-none-requires
 none-requires c κs = search needs

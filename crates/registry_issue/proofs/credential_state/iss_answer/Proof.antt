@@ -1,5 +1,6 @@
 use denote.Ref.{now}
 use native.Mathlib.Omega.{arith}
+use Rattle.cesr.specs.Primitives.{saidAt}
 use Rattle.registry_authentication.proofs.AnchorUse.{issuer-in}
 use Rattle.events_tel.specs.TelEvents.{snZero}
 use Rattle.registry_issue.specs.IssueFolds.{issAnswer}
@@ -7,6 +8,12 @@ use Rattle.registry_answer.specs.Answers.{firstOf}
 use borrow.Author.Needs.{needs}
 use Rattle.registry_issue.proofs.credential_state.iss_answer.Statement.{statement}
 use Rattle.registry_issue.proofs.credential_state.iss_answer.Tie as tie
+
+read-requires : tie.Need-read-requires
+read-requires c κs = search needs
+
+read-requires-2 : tie.Need-read-requires-2
+read-requires-2 c κs = search needs
 
 same-requires : tie.Need-same-requires
 same-requires c κs = search needs
@@ -37,24 +44,31 @@ unfolding issAnswer firstOf
 returns c =
     let b3 = c .before .before .before in
     let b6 = b3 .before .before .before in
-    let q = b6 .before .before .before .args in
+    let b9 = b6 .before .before .before in
+    let start = b9 .before .before in
+    let q = start .args in
+    let s = now (q .s) in
     let y = q .a in
     rw (
       c .or-else3 .ensures,
       c .before .or-else2 .ensures,
       c .before .before .or-else .ensures,
-      c .before .before .before .authenticate-issuer .ensures,
-      issuer-in (now (q .s)) y (q .g .issuer) (y .event .credential) snZero (y .event .said) (λ i. omega (arith, b6 .before .before .shared-slice-known .given i)) (b6 .before .before .before .pre),
+      b3 .authenticate-issuer .ensures,
+      b6 .before .before .read2 .ensures,
+      issuer-in s y (q .g .issuer) (saidAt s (y .event .credential)) snZero (saidAt s (y .event .said)) (λ i. omega (arith, b9 .before .shared-slice-known .given i)) (start .pre),
       b3 .before .accept-if2 .ensures,
       b3 .before .before .is-backerless .ensures,
-      b3 .before .before .before .accept-if .ensures,
+      b6 .accept-if .ensures,
       b6 .before .same .ensures,
+      b9 .read .ensures,
     )
 
 pub iss-answer-spec : {M : Type 1} → statement M
 iss-answer-spec =
     tie.close
     (tie.spec
+    read-requires
+    read-requires-2
     same-requires
     accept-if-requires
     is-backerless-requires
