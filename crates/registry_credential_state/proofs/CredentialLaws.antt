@@ -6,6 +6,7 @@ use Prim.Native.Nat.{ℕ}
 use mathlib.Core.Path.{_≡_, refl}
 use mathlib.Core.List.{List}
 use mathlib.Core.Bool.{true, false, cond, _&&_}
+use Rattle.cesr.specs.Primitives.{saidAt}
 use Rattle.codec_tel.specs.EventReads.{eventAs}
 use Rattle.events_tel.specs.declared.tel.Kind.{Kind}
 use Rattle.events_tel.specs.declared.tel.Kind.the-variants.{Vcp, Vrt, Iss, Rev, Bis, Brv}
@@ -23,7 +24,7 @@ use Rattle.registry_error.specs.declared.error.RegistryRejection.the-variants.{
 use Rattle.registry_credential_state.specs.CredentialFolds.{ingestAnswer, saidOf, revoked, ingestMessage, ingestDecoded, ingestOf}
 
 -- every kind has its digest in the same field
-pub event-said : (s : List ℕ) (k : Kind) (e : TelEvent) → saidOf (eventAs s k e) ≡ e .said
+pub event-said : (s : List ℕ) (k : Kind) (e : TelEvent) → saidOf (eventAs s k e) ≡ saidAt s (e .said)
 event-said s Vcp e = refl
 event-said s Vrt e = refl
 event-said s Iss e = refl

@@ -1,6 +1,7 @@
 use denote.Ref.{now}
 use mathlib.Core.Path.{_≡_, refl, sym, ap, _∙_}
 use mathlib.Core.Bool.{true}
+use Rattle.cesr.specs.Primitives.{saidAt}
 use Rattle.events.specs.Members.{view}
 use Rattle.events_tel.specs.declared.tel.Kind.{Kind}
 use Rattle.events_tel.specs.TelEvents.{membersIn}
@@ -20,6 +21,9 @@ vrt-backers-requires c κs = search needs
 
 vrt-answer-requires : tie.Need-vrt-answer-requires
 vrt-answer-requires c κs = search needs
+
+read-requires : tie.Need-read-requires
+read-requires c κs = search needs
 
 accepts-requires : tie.Need-accepts-requires
 accepts-requires c κs = search needs
@@ -41,8 +45,8 @@ returns c =
     let h : accepts (b .vrt-answer .result) ≡ true = sym (c .before .accepts .ensures) ∙ c .if1 .taken in
     let members = b .before .vrt-backers .ensures .1 in
     let lists : view (b .before .vrt-backers .result .backers) ≡ updatedMembers (view (z .args .g .backers)) (membersIn s (t .backers)) (membersIn s (t .additions)) =
-    members .0 (rw (b .before .vrt-backers .ensures .0) (vrt-lists g (t .said) (t .registry) (t .prior) (t .sn) (t .toad .0) (membersIn s (t .backers)) (membersIn s (t .additions)) (viewAttempt s (z .args .a)) (rw (b .vrt-answer .ensures) at h))) in
-    rotate-accepted s (z .args .g) (z .args .a) _ (answered b) _ h (rw lists (sym (ap (λ (k : Kind). rotated g (eventAs s k t)) (z .pre .1)))) refl (members .1)
+    members .0 (rw (b .before .vrt-backers .ensures .0) (vrt-lists g (saidAt s (t .said)) (saidAt s (t .registry)) (saidAt s (t .prior)) (t .sn) (t .toad .0) (membersIn s (t .backers)) (membersIn s (t .additions)) (viewAttempt s (z .args .a)) (rw (b .vrt-answer .ensures) at h))) in
+    rotate-accepted s (z .args .g) (z .args .a) _ (answered b) _ h (rw (lists, c .before .before .before .before .before .read .ensures) (sym (ap (λ (k : Kind). rotated g (eventAs s k t)) (z .pre .1)))) refl (members .1)
 
 returns-2 : tie.Need-returns-2
 returns-2 c =
@@ -53,4 +57,4 @@ returns-2 c =
 pub rotate-spec : {M : Type 1} → statement M
 rotate-spec =
     tie.close
-    (tie.spec vrt-backers-requires vrt-answer-requires accepts-requires returns returns-2)
+    (tie.spec vrt-backers-requires vrt-answer-requires read-requires accepts-requires returns returns-2)

@@ -1,11 +1,18 @@
 use denote.Ref.{now}
 use native.Mathlib.Omega.{arith}
+use Rattle.cesr.specs.Primitives.{saidAt}
 use Rattle.registry_authentication.proofs.AnchorUse.{issuer-in}
 use Rattle.registry.specs.RegistryFolds.{vrtAnswer}
 use Rattle.registry_answer.specs.Answers.{firstOf}
 use borrow.Author.Needs.{needs}
 use Rattle.registry.proofs.registry.vrt_answer.Statement.{statement}
 use Rattle.registry.proofs.registry.vrt_answer.Tie as tie
+
+read-requires : tie.Need-read-requires
+read-requires c κs = search needs
+
+read-requires-2 : tie.Need-read-requires-2
+read-requires-2 c κs = search needs
 
 same-requires : tie.Need-same-requires
 same-requires c κs = search needs
@@ -57,31 +64,38 @@ returns c =
     let b9 = b6 .before .before .before in
     let b12 = b9 .before .before .before in
     let b15 = b12 .before .before .before in
-    let q = b15 .before .args in
+    let start = b15 .before .before .before in
+    let q = start .args in
+    let s = now (q .s) in
     let y = q .a in
     rw (
       c .or-else6 .ensures,
       c .before .or-else5 .ensures,
       c .before .before .or-else4 .ensures,
-      c .before .before .before .or-else3 .ensures,
+      b3 .or-else3 .ensures,
       b3 .before .or-else2 .ensures,
       b3 .before .before .or-else .ensures,
-      b3 .before .before .before .authenticate-issuer .ensures,
-      issuer-in (now (q .s)) y (q .g .issuer) (y .event .registry) (y .event .sn) (y .event .said) (λ i. omega (arith, b15 .shared-slice-known .given i)) (b15 .before .pre .0),
+      b6 .authenticate-issuer .ensures,
+      b15 .read .ensures,
+      issuer-in s y (q .g .issuer) (saidAt s (y .event .registry)) (y .event .sn) (saidAt s (y .event .said)) (λ i. omega (arith, b15 .before .before .shared-slice-known .given i)) (start .pre .0),
       b6 .before .accept-if3 .ensures,
       b6 .before .before .same2 .ensures,
-      b6 .before .before .before .next-sn .ensures,
+      b12 .before .before .read2 .ensures,
+      b9 .next-sn .ensures,
       b9 .before .accept-if2 .ensures,
       b9 .before .before .is-backerless .ensures,
-      b9 .before .before .before .accept-if .ensures,
+      b12 .accept-if .ensures,
       b12 .before .same .ensures,
-      b15 .before .pre .1,
+      b15 .read .ensures,
+      start .pre .1,
     )
 
 pub vrt-answer-spec : {M : Type 1} → statement M
 vrt-answer-spec =
     tie.close
     (tie.spec
+    read-requires
+    read-requires-2
     same-requires
     accept-if-requires
     is-backerless-requires

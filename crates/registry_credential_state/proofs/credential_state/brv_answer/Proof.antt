@@ -1,12 +1,27 @@
 use denote.Ref.{now}
+use mathlib.Core.Path.{ap}
 use native.Mathlib.Omega.{arith}
+use Rattle.cesr.specs.Primitives.{readMatter, saidAt}
+use Rattle.codec_cursor.specs.Readers.{Read}
+use Rattle.events.specs.declared.seal.Seal.{Seal}
 use Rattle.registry_authentication.proofs.AnchorUse.{message-in}
 use Rattle.events_tel.specs.TelEvents.{snOne}
 use Rattle.registry_credential_state.specs.CredentialFolds.{brvAnswer}
 use Rattle.registry_answer.specs.Answers.{firstOf}
 use borrow.Author.Needs.{needs}
-use Rattle.registry_credential_state.proofs.credential_state.brv_answer.Statement.{statement}
+use Rattle.registry_credential_state.proofs.credential_state.brv_answer.Statement.{
+  statement,
+}
 use Rattle.registry_credential_state.proofs.credential_state.brv_answer.Tie as tie
+
+read-requires : tie.Need-read-requires
+read-requires c κs = search needs
+
+read-requires-2 : tie.Need-read-requires-2
+read-requires-2 c κs = search needs
+
+read-seal-requires : tie.Need-read-seal-requires
+read-seal-requires c κs = search needs
 
 names-registry-requires : tie.Need-names-registry-requires
 names-registry-requires c κs = search needs
@@ -50,29 +65,37 @@ returns c =
     let b3 = c .before .before .before in
     let b6 = b3 .before .before .before in
     let b9 = b6 .before .before .before in
-    let a = b9 .before .before .before .before .before .args .a in
-    let q = b9 .before .before .before .before .before .args in
+    let b12 = b9 .before .before .before in
+    let start = b12 .before .before .before .before in
+    let q = start .args in
+    let s = now (q .s) in
     let y = q .a in
     rw (
       c .or-else5 .ensures,
       c .before .or-else4 .ensures,
       c .before .before .or-else3 .ensures,
-      c .before .before .before .or-else2 .ensures,
+      b3 .or-else2 .ensures,
       b3 .before .or-else .ensures,
       b3 .before .before .transition .ensures,
-      b3 .before .before .before .authenticate-backer .ensures (a .issuer) (a .carried),
+      b6 .authenticate-backer .ensures (readMatter s (y .issuer)) (y .carried),
       b6 .before .message-anchored .ensures,
-      message-in (now (q .s)) y (q .g .issuer) (y .event .credential) snOne (y .event .said) (λ i. omega (arith, b9 .before .before .before .before .shared-slice-known .given i)) (b9 .before .before .before .before .before .pre),
+      b12 .before .read2 .ensures,
+      b12 .before .before .read .ensures,
+      message-in s y (q .g .issuer) (saidAt s (y .event .credential)) snOne (saidAt s (y .event .said)) (λ i. omega (arith, b12 .before .before .before .shared-slice-known .given i)) (start .pre),
       b6 .before .before .accept-if2 .ensures,
-      b6 .before .before .before .is-backerless .ensures,
+      b9 .is-backerless .ensures,
       b9 .before .accept-if .ensures,
       b9 .before .before .names-registry .ensures,
+      ap (λ (r : Read Seal). r .value) (b12 .read-seal .ensures),
     )
 
 pub brv-answer-spec : {M : Type 1} → statement M
 brv-answer-spec =
     tie.close
     (tie.spec
+    read-requires
+    read-requires-2
+    read-seal-requires
     names-registry-requires
     accept-if-requires
     is-backerless-requires

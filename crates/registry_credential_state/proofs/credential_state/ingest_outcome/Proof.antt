@@ -25,6 +25,9 @@ or-else-requires c κs = search needs
 accepts-requires : tie.Need-accepts-requires
 accepts-requires c κs = search needs
 
+read-requires : tie.Need-read-requires
+read-requires c κs = search needs
+
 returns : tie.Need-returns
 unfolding ingestAnswer
 returns c =
@@ -35,7 +38,7 @@ returns c =
     let x = b5 .or-else .result in
     let h : accepts x ≡ true = sym (b3 .before .accepts .ensures) ∙ b3 .if1 .taken in
     let e : x ≡ ingestAnswer (viewRegistry (z .g)) (z .w) (viewAttempt (now (z .s)) (z .a)) = rw (b5 .or-else .ensures, b5 .before .ingest-event .ensures, b5 .before .before .accept-if .ensures, b5 .before .before .before .same .ensures) in
-    ingest-kept (viewRegistry (z .g)) (z .w) (viewAttempt (now (z .s)) a) x _ e (rw (h, event-said (now (z .s)) (a .event .kind) (a .event)))
+    ingest-kept (viewRegistry (z .g)) (z .w) (viewAttempt (now (z .s)) a) x _ e (rw (h, event-said (now (z .s)) (a .event .kind) (a .event), c .read .ensures))
 
 returns-2 : tie.Need-returns-2
 unfolding ingestAnswer
@@ -56,5 +59,6 @@ ingest-outcome-spec =
     ingest-event-requires
     or-else-requires
     accepts-requires
+    read-requires
     returns
     returns-2)
