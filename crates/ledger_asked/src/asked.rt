@@ -84,7 +84,11 @@ fn named_event(e: TelEvent, s: &[u8]) -> Named
         Kind::Iss => about(3, registry, credential),
         Kind::Rev => about(4, registry, credential),
         Kind::Bis => about(3, registry, credential),
-        Kind::Brv => named_in(read_seal(e.seal, s).value, credential),
+        Kind::Brv => {
+            let own = read_seal(e.seal, s);
+            let seal = own.value;
+            named_in(seal, credential)
+        }
     }
 }
 

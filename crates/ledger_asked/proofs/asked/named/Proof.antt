@@ -23,7 +23,7 @@ returns c =
     let b = c .before in
     let a = b .before in
     let s = now (a .before .before .args .s) in
-    c .named-event .ensures s ∙ ap (λ (r : Read Event). namedEvent (r .value)) (b .read-event .ensures ∙ ap (readEvent s) (a .start .ensures))
+    c .named-event .ensures ∙ ap (λ (r : Read Event). namedEvent (r .value)) (b .read-event .ensures ∙ ap (readEvent s) (a .start .ensures))
 
 pub named-spec : {M : Type 1} → statement M
 named-spec =
