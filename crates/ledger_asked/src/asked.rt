@@ -75,11 +75,12 @@ fn named_event(e: TelEvent, s: &[u8]) -> Named
     ensures { λ r. ⌜ r ≡ namedEvent (viewEvent (now (s .entry)) e) ⌝ }
 {
     let none = Said(Matter::none());
+    let said = Said::read(s, e.said);
     let registry = Said::read(s, e.registry);
     let credential = Said::read(s, e.credential);
     let kind = e.kind;
     match kind {
-        Kind::Vcp => about(1, Said::read(s, e.said), none),
+        Kind::Vcp => about(1, said, none),
         Kind::Vrt => about(2, registry, none),
         Kind::Iss => about(3, registry, credential),
         Kind::Rev => about(4, registry, credential),

@@ -14,11 +14,11 @@ read-requires c κs = search needs
 read-requires-2 : tie.Need-read-requires-2
 read-requires-2 c κs = search needs
 
-enum-told : tie.Need-enum-told
-enum-told c = search needs
-
 read-requires-3 : tie.Need-read-requires-3
 read-requires-3 c κs = search needs
+
+enum-told : tie.Need-enum-told
+enum-told c = search needs
 
 about-requires : tie.Need-about-requires
 about-requires c κs = search needs
@@ -58,28 +58,28 @@ named-in-requires c κs = search needs
 
 returns : tie.Need-returns
 returns c =
-    let b = c .before .before in
-    rw (b .enum-told .given .1, c .about .ensures, c .before .read3 .ensures, b .before .before .before .before .none .ensures)
+    let b = c .before .before .before .before .before in
+    rw (c .before .enum-told .given .1, c .about .ensures, b .read .ensures, b .before .none .ensures)
 
 returns-2 : tie.Need-returns-2
 returns-2 c =
-    let b = c .before .before .before in
-    rw (c .before .enum-told2 .given .1, c .about2 .ensures, b .before .read .ensures, b .before .before .none .ensures)
+    let b = c .before .before .before .before in
+    rw (c .before .enum-told2 .given .1, c .about2 .ensures, b .read2 .ensures, b .before .before .none .ensures)
 
 returns-3 : tie.Need-returns-3
 returns-3 c =
     let b = c .before .before .before in
-    rw (c .before .enum-told3 .given .1, c .about3 .ensures, b .read2 .ensures, b .before .read .ensures)
+    rw (c .before .enum-told3 .given .1, c .about3 .ensures, b .read3 .ensures, b .before .read2 .ensures)
 
 returns-4 : tie.Need-returns-4
 returns-4 c =
     let b = c .before .before .before in
-    rw (c .before .enum-told4 .given .1, c .about4 .ensures, b .read2 .ensures, b .before .read .ensures)
+    rw (c .before .enum-told4 .given .1, c .about4 .ensures, b .read3 .ensures, b .before .read2 .ensures)
 
 returns-5 : tie.Need-returns-5
 returns-5 c =
     let b = c .before .before .before in
-    rw (c .before .enum-told5 .given .1, c .about5 .ensures, b .read2 .ensures, b .before .read .ensures)
+    rw (c .before .enum-told5 .given .1, c .about5 .ensures, b .read3 .ensures, b .before .read2 .ensures)
 
 returns-6 : tie.Need-returns-6
 returns-6 c =
@@ -88,7 +88,7 @@ returns-6 c =
       b .enum-told6 .given .1,
       c .named-in .ensures,
       ap (λ (r : Read Seal). r .value) (c .before .read-seal .ensures),
-      b .before .before .read2 .ensures,
+      b .before .before .read3 .ensures,
     )
 
 pub named-event-spec : {M : Type 1} → statement M
@@ -98,8 +98,8 @@ named-event-spec =
     none-requires
     read-requires
     read-requires-2
-    enum-told
     read-requires-3
+    enum-told
     about-requires
     enum-told-2
     about-requires-2
