@@ -12,14 +12,14 @@ use Rattle.events_tel.specs.Configs.{noBackers, hasCode}
 use Rattle.codec_cursor.specs.Readers.{isIdentifier}
 use Rattle.codec.specs.Events.{isConfig}
 use Rattle.codec.specs.Layout.{all, goodSaid, goodIdentifier, goodSn, goodToad, goodConfigs, goodPrefixes, isMatter}
-use Rattle.registry_seals.specs.SignatureSections.{goodSignature}
+use Rattle.registry_signatures.specs.SignatureSections.{goodSignature}
 use Rattle.registry_state.specs.States.{wellCredential}
 use Rattle.registry_wire.specs.Attempts.{goodMessage, goodSource, goodAnchors, goodAnchor}
 use Rattle.registry_error.specs.declared.error.RegistryRejection.the-variants.{Malformed}
 use Rattle.registry_answer.specs.Answers.{acceptIf, firstOf}
 use Rattle.registry_verification.specs.Receipts.{hasGood, receipts}
 use Rattle.registry_verification.specs.Sequence.{nextSn}
-use Rattle.registry_rotation.specs.Updated.{survivors, updatedMembers}
+use Rattle.registry_members.specs.Updated.{survivors, updatedMembers}
 use Rattle.registry_backer.specs.Backers.{standsAt, enoughReceipts, backedBy, authenticateBacker}
 use Rattle.registry_authentication.specs.Issuers.{authenticateIssuer}
 use Rattle.registry_inception.specs.InceptionFolds as N

@@ -19,7 +19,7 @@ use Rattle.codec_cursor.specs.Readers.{Read, Reader, starting, need, readByte, 
 use Rattle.codec.specs.Events.{eventSeal, sealOf, vcpOf, vrtOf, issOf, revOf, bisOf, brvOf, readConfig, readToad, readEventSeal, readOtherSeal, readSeal, readConfigs, readPrefixes, readVcp, readVrt, readIss, readRev, readBis, readBrv, readKind, readEvent}
 use Rattle.codec.proofs.Stands.{went, passed}
 use Rattle.registry_state.specs.States.{registryOf, readRegistry}
-use Rattle.registry_seals.specs.SignatureSections.{signatureOf, readSignature}
+use Rattle.registry_signatures.specs.SignatureSections.{signatureOf, readSignature}
 use Rattle.registry_wire.specs.Attempts.{Message, decodeOf, sourceOf, anchorOf, issuerOf, messageOf, readSource, readSeals, readAnchor, readAnchors, readIssuer, readBackerAt, readEvidence, readMessage}
 use Rattle.registry_wire.specs.Attempts.Evidence.{backerAt}
 use Rattle.registry_wire.specs.Attempts.Decoded.{malformed, decoded}

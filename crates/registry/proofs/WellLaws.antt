@@ -19,7 +19,7 @@ use Rattle.codec.specs.Events.{isConfig}
 use Rattle.codec.specs.Layout.{all, goodSaid, goodToad, goodSn, goodPrefixes, goodEvent}
 use Rattle.registry_state.specs.States.{Registry, viewRegistry, isBacker, wellRegistry}
 use Rattle.registry_state.specs.declared.state.RegistryState.{RegistryState}
-use Rattle.registry_rotation.specs.Updated.{survivors, updatedMembers}
+use Rattle.registry_members.specs.Updated.{survivors, updatedMembers}
 use Rattle.registry.specs.RegistryFolds.{rotated}
 use Rattle.registry_inception.proofs.WellLaws.{Lettered, good-letter, good-backers}
 

@@ -15,7 +15,7 @@ use Rattle.events_tel.specs.TelEvents.Event.{vcp, vrt, iss, rev, bis, brv}
 use Rattle.registry_state.specs.States.{Registry, viewRegistry, wellRegistry}
 use Rattle.registry_state.specs.declared.state.RegistryState.{RegistryState}
 use Rattle.registry_wire.specs.Attempts.{Message, Decoded, decodeOf, viewAttempt}
-use Rattle.registry_seals.specs.SignatureSections.{Signature}
+use Rattle.registry_signatures.specs.SignatureSections.{Signature}
 use Rattle.registry_wire.specs.Attempts.Decoded.{malformed, decoded}
 use Rattle.registry_wire.specs.declared.attempt.Attempt.{Attempt}
 use Rattle.registry_error.specs.declared.error.RegistryRejection.the-variants.{Malformed, DuplicateInception, NotManagementRotation, InconsistentRegistry, RotationOnBackerlessRegistry, PriorDigestMismatch, TooManyBackers}
@@ -23,7 +23,7 @@ use Rattle.registry_error.specs.declared.error.Answer.{Answer}
 use Rattle.registry_error.specs.declared.error.Answer.the-variants.{Rejected}
 use Rattle.registry_answer.specs.Answers.{accepts, acceptIf, backerSet, firstOf}
 use Rattle.registry_verification.specs.Sequence.{nextSn}
-use Rattle.registry_rotation.specs.Updated.{updatedMembers}
+use Rattle.registry_members.specs.Updated.{updatedMembers}
 use Rattle.registry_authentication.specs.Issuers.{authenticateIssuer}
 use Rattle.registry_backer.specs.Backers.{isBackerless, enoughReceipts}
 use Rattle.registry_inception.specs.InceptionFolds.{Outcome, thresholdFits, viewOutcome}

@@ -20,7 +20,7 @@ use Rattle.cesr.specs.declared.primitive.Matter.{Matter}
 use Rattle.cesr.specs.declared.primitive.Said.{Said}
 use Rattle.codec.specs.Layout.{joined, all, goodEvent, goodIdentifier}
 use Rattle.registry_wire.specs.Attempts.{Anchor, Decoded, anchorBytes, goodAnchors, goodSource, goodEvidence, goodMessage, chosenAnchors, anchorsIn, sourcesIn, evidenceOf, evidenceAs, evidenceIn, viewAttempt, viewDecoded, decodeOf, partOf, Holds}
-use Rattle.registry_seals.specs.SignatureSections.{goodSignature}
+use Rattle.registry_signatures.specs.SignatureSections.{goodSignature}
 use Rattle.registry_seals.specs.SealSections.{chosen}
 use Rattle.registry_wire.specs.Attempts.Evidence.{issuer}
 use Rattle.registry_wire.specs.Attempts.Decoded.{malformed, decoded}

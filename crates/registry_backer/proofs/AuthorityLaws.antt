@@ -10,7 +10,7 @@ use lib.Dec.{eqb}
 use Rattle.cesr.specs.declared.primitive.Matter.{Matter}
 use Rattle.events.specs.declared.seal.Seal.{Seal}
 use Rattle.registry_state.specs.States.{Registry}
-use Rattle.registry_seals.specs.SignatureSections.{Signature}
+use Rattle.registry_signatures.specs.SignatureSections.{Signature}
 use Rattle.registry_wire.specs.Attempts.{evidenceOf}
 use Rattle.registry_wire.specs.declared.attempt.Part.{Part}
 use Rattle.registry_error.specs.declared.error.Answer.the-variants.{Accepted}

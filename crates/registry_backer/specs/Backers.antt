@@ -17,7 +17,7 @@ use Rattle.events_tel.specs.Configs.{noBackers}
 use Rattle.events.specs.declared.seal.Seal.{Seal}
 use Rattle.events.specs.declared.seal.Seal.the-variants.{Digest, Root, Source, Event, Last, Back, Kind, Opaque}
 use Rattle.registry_state.specs.States.{Registry}
-use Rattle.registry_seals.specs.SignatureSections.{Signature}
+use Rattle.registry_signatures.specs.SignatureSections.{Signature}
 use Rattle.registry_wire.specs.Attempts.{Evidence}
 use Rattle.registry_wire.specs.Attempts.Evidence.{missing, issuer, backer, backerAt}
 use Rattle.registry_error.specs.declared.error.RegistryRejection.the-variants.{InconsistentRegistry, InconsistentIssuer, InconsistentManagement, UnresolvedAnchor, BackerThreshold, MissingBackerReceipts}

@@ -11,7 +11,7 @@ use registry_answer::answer::backer_set;
 use registry_answer::answer::or_else;
 use registry_error::error::Answer;
 use registry_error::error::RegistryRejection;
-use registry_seals::signatures::Counted;
+use registry_signatures::signatures::Counted;
 use registry_state::state::RegistryState;
 use registry_verification::verification::valid_receipts;
 ghost use Prim.Native.Nat.{ℕ, min};
@@ -21,7 +21,7 @@ ghost use Rattle.cesr.specs.declared.primitive.Matter.{Matter};
 ghost use Rattle.events.specs.Members.{view};
 ghost use Rattle.registry_state.specs.States.{viewRegistry};
 ghost use Rattle.registry_wire.specs.Attempts.{evidenceOf, evidenceAs};
-ghost use Rattle.registry_seals.specs.SignatureSections.{signaturesIn};
+ghost use Rattle.registry_signatures.specs.SignatureSections.{signaturesIn};
 ghost use Rattle.registry_wire.specs.declared.attempt.Part.{Part};
 ghost use Rattle.registry_backer.specs.Backers.{isBackerless, sameRegistry, standsAt, resolvedBy, namesRegistry, resolved, enoughReceipts, backedBy, authenticateBacker};
 

@@ -17,7 +17,7 @@ use Rattle.events_tel.specs.declared.tel.TelEvent.{TelEvent}
 use Rattle.codec.specs.Layout.{all, goodEvent}
 use Rattle.registry_state.specs.States.{Registry, noRegistry}
 use Rattle.registry_wire.specs.Attempts.{Message, goodSource, goodAnchors, goodEvidence, goodMessage, viewAttempt, viewDecoded, decodeOf}
-use Rattle.registry_seals.specs.SignatureSections.{goodSignature}
+use Rattle.registry_signatures.specs.SignatureSections.{goodSignature}
 use Rattle.registry_wire.specs.declared.attempt.Attempt.{Attempt}
 use Rattle.registry_wire.specs.declared.attempt.DecodedAttempt.{DecodedAttempt}
 use Rattle.registry_answer.specs.Answers.{accepts}

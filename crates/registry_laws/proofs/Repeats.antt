@@ -17,7 +17,7 @@ use Rattle.events.specs.declared.member_set.Rule.the-variants.{DuplicateCut, Du
 use Rattle.events.specs.declared.member_set.Membership.the-variants.{Sound}
 use Rattle.events.proofs.Members.{has-found, has-none, sound-all, sound-apart, distinct-sound}
 use Rattle.registry_verification.specs.Starred.{All, Different}
-use Rattle.registry_rotation.specs.Updated.{survivors, updatedMembers}
+use Rattle.registry_members.specs.Updated.{survivors, updatedMembers}
 use Rattle.registry_laws.proofs.Chains.{else-first, else-second}
 
 -- a statement about every element is one about every place

@@ -27,7 +27,7 @@ use Rattle.registry_wire.specs.Attempts.Decoded.{malformed, decoded}
 use Rattle.registry_answer.specs.Answers.{accepts, backerSet}
 use Rattle.registry_error.specs.declared.error.Answer.the-variants.{Rejected}
 use Rattle.registry_error.specs.declared.error.RegistryRejection.the-variants.{Malformed, RotationOnBackerlessRegistry, BackerThreshold}
-use Rattle.registry_rotation.specs.Updated.{updatedMembers}
+use Rattle.registry_members.specs.Updated.{updatedMembers}
 use Rattle.registry_inception.specs.InceptionFolds.{Outcome, thresholdFits}
 use Rattle.registry.specs.RegistryFolds.{vrtBackers, vrtAnswer, ingestEvent, rotated, ingestMessage, ingestDecoded, ingestOf}
 use Rattle.registry_answer.proofs.AnswerLaws.{passed}

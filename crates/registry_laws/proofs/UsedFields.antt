@@ -17,7 +17,7 @@ use Rattle.registry_state.specs.States.{Registry, viewRegistry, wellRegistry, w
 use Rattle.registry_state.specs.declared.state.RegistryState.{RegistryState}
 use Rattle.registry_state.specs.declared.state.CredentialState.{CredentialState}
 use Rattle.registry_wire.specs.Attempts.{Message, Evidence, Decoded, decodeOf}
-use Rattle.registry_seals.specs.SignatureSections.{Signature}
+use Rattle.registry_signatures.specs.SignatureSections.{Signature}
 use Rattle.registry_wire.specs.Attempts.Decoded.{malformed, decoded}
 use Rattle.registry_wire.specs.Attempts.Evidence.{missing, issuer, backer, backerAt}
 use Rattle.registry_answer.specs.Answers.{acceptIf, orElse, firstOf}

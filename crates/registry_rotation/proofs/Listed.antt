@@ -1,6 +1,5 @@
 -- Lists that stay in the bytes, and the rules on them.
---     times-front, times-at, times-behind
---                                         how many elements are read, the first of them, one of them, and one more
+--     times-front, times-at               the first of the elements that are read, and one of them
 --     all-listed                          a list that stays in the bytes, by its size
 --     listed-at, has-more                 a prefix that a loop reads, and one prefix more that is looked at
 --     breaks-is, listed-breaks, current-breaks
@@ -8,7 +7,7 @@
 use Prim.Native.Nat.{ℕ, zero, suc, _+_, _<_, _≤_, min}
 use mathlib.Core.Path.{_≡_, refl, ap, _∙_}
 use mathlib.Core.Bool.{Bool, true, false, cond, not, _||_, or-false}
-use mathlib.Core.List.{List, [], _∷_, _++_, append-assoc}
+use mathlib.Core.List.{List, [], _∷_}
 use native.Mathlib.Omega.{arith}
 use native.Mathlib.Numerals.{add-one}
 use native.Mathlib.Decide.{ℕ-discrete}
@@ -46,11 +45,6 @@ module _ {A : Type 0} (p : Reader A) (s : List ℕ) (c : Cursor) where
       go : Dec (i ≡ n) → (i < n → getD (times n p s c .value) i d ≡ p s (times i p s c .next) .value) → getD (times (suc n) p s c .value) i d ≡ p s (times i p s c .next) .value
       go (yes e) less = rw e (getD-at (times n p s c .value) _ [] d n (length-times p s c n))
       go (no h) less = List·getD-append (times n p s c .value) _ d i (omega (arith, length-times p s c n)) ∙ less (omega arith)
-
-  -- one element more, behind others
-  pub times-behind : (a : List A) (i : ℕ) (d : Cursor) (r : Read A) → d ≡ times i p s c .next → r ≡ p s d → (a ++ times i p s c .value) ++ (r .value ∷ []) ≡ a ++ times (i + 1) p s c .value
-  unfolding times
-  times-behind a i d r e f = rw (add-one, ← e, ← f) (append-assoc a (times i p s c .value) (r .value ∷ []))
 
 -- a list that stays in the bytes, by its size
 pub all-listed : (s : List ℕ) (l : Listed) (n : ℕ) → n ≡ min (l .count) 16 → membersIn s l ≡ times n readPrefix s (l .start) .value

@@ -17,7 +17,7 @@ ghost use Rattle.events_tel.specs.TelEvents.{membersIn};
 ghost use Rattle.codec_cursor.specs.Readers.{readPrefix, times};
 
 // Whether x is among the n prefixes that stand from a cursor on.
-pub(crate) fn found_in(s: &[u8], start: Cursor, n: usize, x: BasicPrefix) -> bool
+pub fn found_in(s: &[u8], start: Cursor, n: usize, x: BasicPrefix) -> bool
     ensures { λ r. ⌜ r ≡ has x (times n readPrefix (now (s .entry)) start .value) ⌝ }
 {
     let mut c = start;

@@ -1,3 +1,2 @@
-// A rotation's lists, which stay in the attempt's bytes: the rules on them, and the members after it (docs/RULES.md, "Lists of backers").
+// The rules on a rotation's lists, which stay in the attempt's bytes (docs/RULES.md, "Lists of backers").
 pub mod deltas;
-pub mod state;

@@ -1,2 +1,1 @@
 pub mod SealSections
-pub mod SignatureSections

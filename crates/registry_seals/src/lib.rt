@@ -1,3 +1,2 @@
-// The signatures of an attempt, and the seals of an anchoring event (docs/RULES.md, "Bytes" and "Anchoring events").
+// The anchoring event that is used, and its seals (docs/RULES.md, "Anchoring events").
 pub mod seals;
-pub mod signatures;

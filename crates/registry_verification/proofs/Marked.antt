@@ -17,7 +17,7 @@ use Rattle.laws.proofs.Count.{count-same, count-more, count-none}
 use Rattle.laws.proofs.Tests.{and-left, and-right}
 use Rattle.codec_cursor.specs.declared.cursor.Cursor.{Cursor}
 use Rattle.codec_cursor.specs.Readers.{Read, times}
-use Rattle.registry_seals.specs.SignatureSections.{Signature, readSignature}
+use Rattle.registry_signatures.specs.SignatureSections.{Signature, readSignature}
 use Rattle.registry_verification.specs.Receipts.{hasGood, receipts, marked}
 use Rattle.registry_verification.specs.declared.verification.Marks.{Marks}
 

@@ -9,7 +9,7 @@ use Rattle.cesr.proofs.Matters.{eq-prefix, prefix-eq}
 use Rattle.events.specs.Members.{has}
 use Rattle.events_toad.specs.Toads.{ceil, strongMajority, leastOf, ampleOf, exactOk, exactOf}
 use Rattle.registry_disposition.specs.Dispositions.{outOfOrder}
-use Rattle.registry_rotation.specs.Updated.{survivors, updatedMembers}
+use Rattle.registry_members.specs.Updated.{survivors, updatedMembers}
 use Rattle.registry_verification.specs.Starred.{All, Says, starred}
 use Rattle.registry_verification.specs.Starred.Case.{oneCutOneAdded}
 

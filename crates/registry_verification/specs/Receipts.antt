@@ -5,7 +5,7 @@ use mathlib.Core.Bool.{Bool, false, cond, _&&_, _||_}
 use lib.Dec.{eqb, ltb}
 use lib.ListN.{getD, set}
 use Rattle.laws.specs.Count.{count}
-use Rattle.registry_seals.specs.SignatureSections.{Signature}
+use Rattle.registry_signatures.specs.SignatureSections.{Signature}
 use Rattle.registry_verification.specs.declared.verification.Marks.{Marks}
 
 -- whether an index has a good signature

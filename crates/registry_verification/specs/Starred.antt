@@ -11,7 +11,7 @@ use Rattle.registry_error.specs.Errors.{dispositionOf}
 use Rattle.registry_error.specs.declared.error.RegistryRejection.the-variants.{OutOfOrder}
 use Rattle.registry_disposition.specs.declared.disposition.Disposition.the-variants.{Contested, Awaiting}
 use Rattle.registry_disposition.specs.declared.disposition.EvidenceKind.the-variants.{PriorEvents}
-use Rattle.registry_rotation.specs.Updated.{updatedMembers}
+use Rattle.registry_members.specs.Updated.{updatedMembers}
 
 -- a statement about every element of a list
 abbrev pub All : {A : Type 0} → (A → Type 0) → List A → Type 0

@@ -1,11 +1,11 @@
 // Receipts of backers (docs/RULES.md, "Receipts"). Verifying a signature is the caller's; an attempt has the verdicts.
 use codec::section::at_most_16;
 use codec_cursor::cursor::Cursor;
-use registry_seals::signatures::Counted;
-use registry_seals::signatures::read_signature;
+use registry_signatures::signatures::Counted;
+use registry_signatures::signatures::read_signature;
 ghost use mathlib.Core.Path.{_≡_};
 ghost use Prim.Native.Nat.{_≤_, min};
-ghost use Rattle.registry_seals.specs.SignatureSections.{signaturesIn};
+ghost use Rattle.registry_signatures.specs.SignatureSections.{signaturesIn};
 ghost use Rattle.registry_verification.specs.Receipts.{receipts, marked};
 
 // A mark for each backer, 0 or 1, and how many are set: no signature is looked back at.

@@ -26,14 +26,14 @@ use Rattle.codec.proofs.Codes.{codes-after}
 use Rattle.codec.proofs.CodesList.{codes-times, codes-section}
 use Rattle.registry_state.specs.States.{readRegistry}
 use Rattle.registry_wire.specs.Attempts.{Anchor, Decoded, anchorBytes, goodAnchor, readSource, readAnchor, readAnchors, readIssuer, readBackerAt, readEvidence, readMessage, decodeOf, anchorsIn, evidenceOf, evidenceAs, partOf, Holds, ReadAs, passedAnchors}
-use Rattle.registry_seals.specs.SignatureSections.{signatureBytes, goodSignature, readSignature, signaturesIn, passedSignatures}
+use Rattle.registry_signatures.specs.SignatureSections.{signatureBytes, goodSignature, readSignature, signaturesIn, passedSignatures}
 use Rattle.registry_wire.specs.Attempts.Evidence.{missing, issuer, backer}
 use Rattle.registry_wire.specs.Attempts.Decoded.{malformed, decoded}
 use Rattle.registry_wire.specs.declared.attempt.Source.{Source}
 use Rattle.registry_wire.specs.declared.attempt.Part.{Part}
 use Rattle.registry_wire.specs.declared.attempt.AnchorsRead.{AnchorsRead}
 use Rattle.registry_wire.specs.declared.attempt.EvidenceRead.{EvidenceRead}
-use Rattle.registry_seals.specs.declared.signatures.SignaturesRead.{SignaturesRead}
+use Rattle.registry_signatures.specs.declared.signatures.SignaturesRead.{SignaturesRead}
 use Rattle.registry_wire.proofs.CodesAttempt.{codes-anchor, codes-signature, codes-evidence}
 
 -- a cursor that has not stopped is its place

@@ -29,7 +29,7 @@ use Rattle.codec.proofs.CodesPlain.{plain, plain-told}
 use Rattle.codec.proofs.CodesRound.{whole-sound, whole-complete}
 use Rattle.registry_state.specs.States.{registryBytes, readRegistry}
 use Rattle.registry_wire.specs.Attempts.{Anchor, Evidence, Message, sourceBytes, anchorBytes, evidenceBytes, attemptBytes, goodSource, goodAnchor, goodAnchors, goodEvidence, goodMessage, sourceOf, readSource, readSeals, anchorOf, readAnchor, readAnchors, issuerOf, readIssuer, readBackerAt, readEvidence, messageOf, readMessage, decodeOf}
-use Rattle.registry_seals.specs.SignatureSections.{Signature, signatureBytes, goodSignature, signatureOf, readSignature}
+use Rattle.registry_signatures.specs.SignatureSections.{Signature, signatureBytes, goodSignature, signatureOf, readSignature}
 use Rattle.registry_wire.specs.Attempts.Evidence.{missing, issuer, backer, backerAt}
 use Rattle.registry_wire.specs.Attempts.Decoded.{malformed, decoded}
 use Rattle.registry_wire.specs.declared.attempt.Source.{Source}

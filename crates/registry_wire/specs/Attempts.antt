@@ -18,7 +18,7 @@ use Rattle.codec.specs.Events.{readSeal, readEvent}
 use Rattle.codec_tel.specs.EventReads.{viewEvent}
 use Rattle.codec.specs.Layout.{joined, sectionBytes, all, saidBytes, sealBytes, eventBytes, goodSaid, goodIdentifier, goodSn, goodSeal, goodEvent}
 use Rattle.registry_state.specs.States.{Registry, registryBytes, goodRegistry, readRegistry}
-use Rattle.registry_seals.specs.SignatureSections.{Signature, signatureBytes, goodSignature, readSignature, signaturesIn}
+use Rattle.registry_signatures.specs.SignatureSections.{Signature, signatureBytes, goodSignature, readSignature, signaturesIn}
 use Rattle.registry_wire.specs.declared.attempt.Source.{Source}
 use Rattle.registry_wire.specs.declared.attempt.Part.{Part}
 use Rattle.registry_wire.specs.declared.attempt.DecodedAttempt.{DecodedAttempt}

@@ -9,7 +9,7 @@ use Rattle.codec_tel.specs.EventReads.{eventAs}
 use Rattle.registry_state.specs.States.{viewRegistry}
 use Rattle.registry_wire.specs.Attempts.{viewAttempt}
 use Rattle.registry_answer.specs.Answers.{accepts}
-use Rattle.registry_rotation.specs.Updated.{updatedMembers}
+use Rattle.registry_members.specs.Updated.{updatedMembers}
 use Rattle.registry.specs.RegistryFolds.{ingestEvent, rotated}
 use Rattle.registry.proofs.RegistryLaws.{rotate-accepted, rotate-refused, vrt-lists}
 use borrow.Author.Needs.{needs}

@@ -10,8 +10,8 @@ use Rattle.registry_inception.specs.InceptionFolds.{thresholdFits}
 use Rattle.registry.specs.RegistryFolds.{vrtBackers}
 use denote.Ref.{now}
 use mathlib.Core.Path.{_≡_, ap, sym, _∙_}
-use Rattle.registry_seals.specs.SignatureSections.{signaturesIn}
-use Rattle.registry_rotation.specs.Updated.{updatedMembers}
+use Rattle.registry_signatures.specs.SignatureSections.{signaturesIn}
+use Rattle.registry_members.specs.Updated.{updatedMembers}
 use Rattle.registry.proofs.RegistryLaws.{limit-chain, limit-list}
 use Rattle.laws.proofs.Views.{length-mapped}
 use Rattle.events.proofs.Members.{view-size}

@@ -1,6 +1,6 @@
 use denote.Ref.{now}
 use Rattle.registry_state.specs.States.{viewRegistry}
-use Rattle.registry_seals.specs.SignatureSections.{signaturesIn}
+use Rattle.registry_signatures.specs.SignatureSections.{signaturesIn}
 use Rattle.registry_backer.proofs.AuthorityLaws.{by-held, by-own}
 use borrow.Author.Needs.{needs}
 use Rattle.registry_backer.proofs.backer.authenticate_backer.Statement.{statement}

@@ -6,7 +6,7 @@ use denote.Ref.{now}
 use lib.ListN.{length, getD-replicate}
 use borrow.Author.Needs.{needs}
 use Rattle.codec_cursor.specs.Readers.{placed, times}
-use Rattle.registry_seals.specs.SignatureSections.{Signature, readSignature, signaturesIn}
+use Rattle.registry_signatures.specs.SignatureSections.{Signature, readSignature, signaturesIn}
 use Rattle.registry_verification.specs.declared.verification.Marks.{Marks}
 use Rattle.registry_verification.specs.Receipts.{receipts}
 use Rattle.registry_verification.proofs.Marked.{Marked, no-marks, receipts-below, walk-turn}

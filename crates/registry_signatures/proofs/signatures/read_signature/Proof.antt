@@ -1,8 +1,8 @@
 use Rattle.codec_cursor.specs.Readers.{readByteIf}
-use Rattle.registry_seals.specs.SignatureSections.{readSignature}
+use Rattle.registry_signatures.specs.SignatureSections.{readSignature}
 use borrow.Author.Needs.{needs}
-use Rattle.registry_seals.proofs.signatures.read_signature.Statement.{statement}
-use Rattle.registry_seals.proofs.signatures.read_signature.Tie as tie
+use Rattle.registry_signatures.proofs.signatures.read_signature.Statement.{statement}
+use Rattle.registry_signatures.proofs.signatures.read_signature.Tie as tie
 
 quad-requires : tie.Need-quad-requires
 quad-requires c κs = search needs

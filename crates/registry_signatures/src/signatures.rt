@@ -2,7 +2,7 @@
 use codec::section::count_up_to;
 use codec_cursor::cursor::Cursor;
 ghost use mathlib.Core.Path.{_≡_};
-ghost use Rattle.registry_seals.specs.SignatureSections.{viewSignature, readSignature, passedSignatures};
+ghost use Rattle.registry_signatures.specs.SignatureSections.{viewSignature, readSignature, passedSignatures};
 
 // Elements in the attempt's bytes, one behind the other.
 pub struct Counted {

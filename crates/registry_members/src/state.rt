@@ -1,10 +1,10 @@
 // The members after a rotation (docs/RULES.md, "Lists of backers").
-use crate::deltas::found_in;
 use cesr::primitive::BasicPrefix;
 use cesr::primitive::Matter;
 use codec::section::at_most_16;
 use events::member_set::Members;
 use events_tel::tel::Listed;
+use registry_rotation::deltas::found_in;
 ghost use mathlib.Core.Path.{_≡_};
 ghost use mathlib.Core.Bool.{cond};
 ghost use Prim.Native.Nat.{_≤_};
@@ -12,7 +12,7 @@ ghost use lib.ListN.{length};
 ghost use lib.Dec.{leb};
 ghost use Rattle.events.specs.Members.{view};
 ghost use Rattle.events_tel.specs.TelEvents.{membersIn};
-ghost use Rattle.registry_rotation.specs.Updated.{updatedMembers};
+ghost use Rattle.registry_members.specs.Updated.{updatedMembers};
 
 // Whether the members fit a list of 16, and the list where they do.
 pub struct Updated {

@@ -14,12 +14,12 @@ use Rattle.events.proofs.Members.{view-size, view-at}
 use Rattle.events_tel.specs.TelEvents.{membersIn}
 use Rattle.codec.proofs.Loops.{times-next, view-put}
 use Rattle.codec_cursor.specs.Readers.{readPrefix, times}
-use Rattle.registry_rotation.specs.Updated.{survivors, updatedMembers}
+use Rattle.registry_members.specs.Updated.{survivors, updatedMembers}
 use Rattle.codec.proofs.Loops.{length-times}
-use Rattle.registry_rotation.proofs.Listed.{times-behind, all-listed}
-use Rattle.registry_rotation.proofs.Survivors.{survivors-step}
-use Rattle.registry_rotation.proofs.state.updated_members.Statement.{statement}
-use Rattle.registry_rotation.proofs.state.updated_members.Tie as tie
+use Rattle.registry_rotation.proofs.Listed.{all-listed}
+use Rattle.registry_members.proofs.Survivors.{survivors-step, times-behind}
+use Rattle.registry_members.proofs.state.updated_members.Statement.{statement}
+use Rattle.registry_members.proofs.state.updated_members.Tie as tie
 
 abbrev Inv-loop : tie.InvT-loop
 Inv-loop s cuts additions current n out more items₀ count₀ i₀ items count i =

@@ -5,10 +5,10 @@ use native.Mathlib.Omega.{arith}
 use denote.Ref.{now}
 use Rattle.codec_cursor.specs.Readers.{times, section}
 use Rattle.codec.proofs.Loops.{times-next}
-use Rattle.registry_seals.specs.SignatureSections.{readSignature, passedSignatures}
+use Rattle.registry_signatures.specs.SignatureSections.{readSignature, passedSignatures}
 use borrow.Author.Needs.{needs}
-use Rattle.registry_seals.proofs.signatures.pass_signatures.Statement.{statement}
-use Rattle.registry_seals.proofs.signatures.pass_signatures.Tie as tie
+use Rattle.registry_signatures.proofs.signatures.pass_signatures.Statement.{statement}
+use Rattle.registry_signatures.proofs.signatures.pass_signatures.Tie as tie
 
 abbrev Inv-loop : tie.InvT-loop
 Inv-loop s count from next₀ i₀ next i = (i ≤ count) × (next ≡ times i readSignature s next₀ .next)

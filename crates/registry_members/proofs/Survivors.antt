@@ -1,14 +1,17 @@
 -- Laws of the members after a rotation.
 use Prim.Native.Nat.{ℕ, suc, _+_, _<_, _≤_}
 use mathlib.Core.Path.{_≡_, refl, ap}
-use mathlib.Core.List.{List, [], _∷_, _++_}
+use mathlib.Core.List.{List, [], _∷_, _++_, append-assoc}
 use mathlib.Core.Bool.{Bool, true, false, cond}
 use native.Mathlib.Omega.{arith}
+use native.Mathlib.Numerals.{add-one}
 use lib.ListN.{length, take}
 use Rattle.laws.proofs.Views.{take-step}
 use Rattle.cesr.specs.declared.primitive.BasicPrefix.{BasicPrefix}
 use Rattle.events.specs.Members.{has, at, noPrefix}
-use Rattle.registry_rotation.specs.Updated.{survivors}
+use Rattle.codec_cursor.specs.declared.cursor.Cursor.{Cursor}
+use Rattle.codec_cursor.specs.Readers.{Read, Reader, times}
+use Rattle.registry_members.specs.Updated.{survivors}
 
 survivors-snoc : (cuts a : List BasicPrefix) (x : BasicPrefix) → survivors cuts (a ++ (x ∷ [])) ≡ cond (has x cuts) (survivors cuts a) (survivors cuts a ++ (x ∷ []))
 unfolding survivors
@@ -33,3 +36,9 @@ survivors-fewer cuts (x ∷ l) = go (has x cuts) (survivors-fewer cuts l)
     go : (t : Bool) → length (survivors cuts l) ≤ length l → length (cond t (survivors cuts l) (x ∷ survivors cuts l)) ≤ suc (length l)
     go true h = omega arith
     go false h = omega arith
+
+-- one element more is read, behind others
+module _ {A : Type 0} (p : Reader A) (s : List ℕ) (c : Cursor) where
+  pub times-behind : (a : List A) (i : ℕ) (d : Cursor) (r : Read A) → d ≡ times i p s c .next → r ≡ p s d → (a ++ times i p s c .value) ++ (r .value ∷ []) ≡ a ++ times (i + 1) p s c .value
+  unfolding times
+  times-behind a i d r e f = rw (add-one, ← e, ← f) (append-assoc a (times i p s c .value) (r .value ∷ []))
