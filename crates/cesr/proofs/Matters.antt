@@ -4,7 +4,7 @@
 --     matter-apart             primitives that differ in the first word
 --     eq-matter, matter-eq     equality as a test, and as a path
 --     eq-said, said-eq, eq-prefix, prefix-eq   the same in either role
-use Prim.Native.Nat.{ℕ, _+_}
+use Prim.Native.Nat.{ℕ, _+_, _%_}
 use mathlib.Core.Path.{_≡_, refl, ap}
 use mathlib.Core.List.{List}
 use mathlib.Core.Bool.{Bool, true, false, cond, _&&_}
@@ -27,7 +27,7 @@ use Rattle.cesr.specs.Primitives.{none, matterBytes, readMatter, eqMatte
 pub made : {a b c d e a' b' c' d' e' : ℕ} → a ≡ a' → b ≡ b' → c ≡ c' → d ≡ d' → e ≡ e' → _≡_ {A = Matter} (record { code = a; w0 = b; w1 = c; w2 = d; w3 = e }) (record { code = a'; w0 = b'; w1 = c'; w2 = d'; w3 = e' })
 made p q r s t = cc
 
-pub matter-sets : (l : List ℕ) (at : ℕ) (m : Matter) → sets (sets (sets (sets (set l at (m .code)) (at + 1) (digits 8 (m .w0))) (at + 9) (digits 8 (m .w1))) (at + 17) (digits 8 (m .w2))) (at + 25) (digits 8 (m .w3)) ≡ sets l at (matterBytes m)
+pub matter-sets : (l : List ℕ) (at : ℕ) (m : Matter) → sets (sets (sets (sets (set l at (m .code % 256)) (at + 1) (digits 8 (m .w0))) (at + 9) (digits 8 (m .w1))) (at + 17) (digits 8 (m .w2))) (at + 25) (digits 8 (m .w3)) ≡ sets l at (matterBytes m)
 unfolding matterBytes
 matter-sets l at m = simp (sets-append, length-digits, add-assoc) (rw (add-one at))
 

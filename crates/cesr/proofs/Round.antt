@@ -2,12 +2,12 @@
 --     sn-back, sn-again           a sequence number that was written is read; one that was read writes the same bytes
 --     matter-back, matter-again   the same for a primitive
 --     same-bytes                  two primitives are equal exactly when their 33 bytes are
-use Prim.Native.Nat.{ℕ, _+_, _^_, _<_, _≤_}
+use Prim.Native.Nat.{ℕ, _+_, _%_, _^_, _<_, _≤_}
 use mathlib.Core.Path.{_≡_, refl, ap, sym, _∙_}
 use mathlib.Core.List.{List, [], _∷_, _++_, append-assoc, append-nil}
 use mathlib.Core.Bool.{Bool, true, false, cond}
 use mathlib.Core.Logic.{_↔_}
-use native.Mathlib.Nat.{add-assoc}
+use native.Mathlib.Nat.{add-assoc, mod-eq-of-lt}
 use native.Mathlib.Omega.{arith}
 use lib.ListN.{length, getD, take, drop, length-append}
 use lib.Seq.{sets-eq, length-take-le, getD-at, take-add, drop-drop, drop-cons}
@@ -39,23 +39,24 @@ pub sn-again : (l : List ℕ) (at : ℕ) → Bytes l → put l at (snBytes (read
 unfolding readSn snBytes
 sn-again l at b = rw (value-words (numberAt l at 16) (numberAt-below l at 16 b (lib.Dec.lit< tt))) (put-at l at 16 b)
 
--- the four words are words
+-- the letter is a byte, and the four words are words
 pub record Filled (m : Matter) : Type 0 where
+  pub code : m .code < 256
   pub w0 : m .w0 < 256 ^ 8
   pub w1 : m .w1 < 256 ^ 8
   pub w2 : m .w2 < 256 ^ 8
   pub w3 : m .w3 < 256 ^ 8
 
--- the words of a primitive that was read are words
+-- so they are of a primitive that was read
 pub read-filled : (s : List ℕ) (at : ℕ) → Bytes s → Filled (readMatter s at)
 unfolding readMatter
 read-filled s at b = go (room s at 33)
   where
     whole : Filled (record { code = getD s at 0; w0 = number s (at + 1) 8; w1 = number s (at + 9) 8; w2 = number s (at + 17) 8; w3 = number s (at + 25) 8 })
-    whole = record { w0 = number-below s (at + 1) 8 b; w1 = number-below s (at + 9) 8 b; w2 = number-below s (at + 17) 8 b; w3 = number-below s (at + 25) 8 b }
+    whole = record { code = b at; w0 = number-below s (at + 1) 8 b; w1 = number-below s (at + 9) 8 b; w2 = number-below s (at + 17) 8 b; w3 = number-below s (at + 25) 8 b }
 
     empty : Filled none
-    empty = record { w0 = lib.Dec.lit< tt; w1 = lib.Dec.lit< tt; w2 = lib.Dec.lit< tt; w3 = lib.Dec.lit< tt }
+    empty = record { code = lib.Dec.lit< tt; w0 = lib.Dec.lit< tt; w1 = lib.Dec.lit< tt; w2 = lib.Dec.lit< tt; w3 = lib.Dec.lit< tt }
 
     go : (t : Bool) → Filled (cond t (record { code = getD s at 0; w0 = number s (at + 1) 8; w1 = number s (at + 9) 8; w2 = number s (at + 17) 8; w3 = number s (at + 25) 8 }) none)
     go true = whole
@@ -65,14 +66,14 @@ read-filled s at b = go (room s at 33)
 pub matter-at : (x : Matter) (p q l : List ℕ) (at : ℕ) → Filled x → l ≡ p ++ (matterBytes x ++ q) → length p ≡ at → readMatter l at ≡ x
 unfolding matterBytes readMatter
 matter-at x p q l at f e g =
-    let c = x .code ∷ [] in
+    let c = x .code % 256 ∷ [] in
     let d0 = digits 8 (x .w0) in
     let d1 = digits 8 (x .w1) in
     let d2 = digits 8 (x .w2) in
     let d3 = digits 8 (x .w3) in
     let z : length l ≡ at + 33 + length q = rw e (simp (length-append, length-digits) (rw g (omega arith))) in
     rw (true-room l at 33 (omega arith), e, ← g)
-    (made (getD-at p (x .code) _ 0 (length p) refl)
+    (made (getD-at p (x .code % 256) _ 0 (length p) refl ∙ mod-eq-of-lt (f .code))
     (number-at _ (p ++ c) (d1 ++ (d2 ++ (d3 ++ q))) _ 8 (x .w0) (simp append-assoc) (simp length-append) (f .w0))
     (number-at _ (p ++ (c ++ d0)) (d2 ++ (d3 ++ q)) _ 8 (x .w1) (simp append-assoc) (simp (length-append, length-digits)) (f .w1))
     (number-at _ (p ++ (c ++ (d0 ++ d1))) (d3 ++ q) _ 8 (x .w2) (simp append-assoc) (simp (length-append, length-digits)) (f .w2))
@@ -95,7 +96,7 @@ unfolding matterBytes readMatter
 matter-bytes s at b h =
     let d : (k : ℕ) → at + k + 8 ≤ length s → digits 8 (number s (at + k) 8) ≡ take 8 (drop (at + k) s) = λ k l. digits-number 8 s (at + k) b l in
     let one : take 1 (drop at s) ≡ getD s at 0 ∷ [] = ap (take 1) (drop-cons s at 0 (omega arith)) in
-    rw (true-room s at 33 h, d 1 (omega arith), d 9 (omega arith), d 17 (omega arith), d 25 (omega arith))
+    rw (true-room s at 33 h, mod-eq-of-lt (b at), d 1 (omega arith), d 9 (omega arith), d 17 (omega arith), d 25 (omega arith))
     (sym (pieces 1 32 at s ∙ rw one (ap (λ (r : List ℕ). getD s at 0 ∷ r) (simp (pieces 8 24, pieces 8 16, pieces 8 8, add-assoc)))))
 
 pub matter-again : (l : List ℕ) (at : ℕ) → Bytes l → put l at (matterBytes (readMatter l at)) ≡ l

@@ -1,5 +1,5 @@
 -- Primitives: their bytes, equality, and the letters that tell their roles (docs/RULES.md, "Bytes").
-use Prim.Native.Nat.{ℕ, _+_}
+use Prim.Native.Nat.{ℕ, _+_, _%_}
 use mathlib.Core.List.{List, _∷_, _++_}
 use mathlib.Core.Bool.{Bool, cond, _&&_, _||_}
 use lib.Dec.{eqb, leb}
@@ -14,9 +14,9 @@ use Rattle.cesr.specs.declared.primitive.BasicPrefix.{BasicPrefix}
 abbrev pub none : Matter
 none = record { code = 0; w0 = 0; w1 = 0; w2 = 0; w3 = 0 }
 
--- its 33 bytes: the letter, then the four words
+-- its 33 bytes: the letter's lowest byte, of which it has no more where it is a letter, then the four words
 unfoldable pub matterBytes : Matter → List ℕ
-matterBytes m = m .code ∷ digits 8 (m .w0) ++ (digits 8 (m .w1) ++ (digits 8 (m .w2) ++ digits 8 (m .w3)))
+matterBytes m = m .code % 256 ∷ digits 8 (m .w0) ++ (digits 8 (m .w1) ++ (digits 8 (m .w2) ++ digits 8 (m .w3)))
 
 -- the primitive in the 33 bytes from at, or none where they are not all there
 unfoldable pub readMatter : List ℕ → ℕ → Matter

@@ -6,10 +6,10 @@ ghost use mathlib.Core.Path.{_≡_};
 ghost use Rattle.laws.specs.Room.{room, put};
 ghost use Rattle.cesr.specs.Primitives.{none, matterBytes, readMatter, saidAt, eqMatter, eqSaid, eqPrefix, isBasic, isSaid};
 
-// The material of a primitive, whatever its role: the code letter, and the 32 bytes as four big-endian words.
+// The material of a primitive, whatever its role: the code letter, and the 32 bytes as four big-endian words. The letter has a word too: with a gap behind a single byte the compiler makes slow copies, and a lent state would have bits that mean nothing.
 #[repr(C)]
 pub struct Matter {
-    pub code: u8,
+    pub code: u64,
     pub w0: u64,
     pub w1: u64,
     pub w2: u64,
@@ -38,26 +38,12 @@ impl Matter {
         }
     }
 
-    // Handed on field by field: of a primitive that is copied whole, with the gap behind its letter, the compiler makes slow copies.
     pub fn read(s: &[u8], at: usize) -> Matter
-        ensures { λ r. ⌜ r ≡ readMatter (now (s .entry)) at ⌝ }
-    {
-        let m = Matter::load(s, at);
-        Matter {
-            code: m.code,
-            w0: m.w0,
-            w1: m.w1,
-            w2: m.w2,
-            w3: m.w3,
-        }
-    }
-
-    fn load(s: &[u8], at: usize) -> Matter
         ensures { λ r. ⌜ r ≡ readMatter (now (s .entry)) at ⌝ }
     {
         if has_room(s.len(), at, 33) {
             return Matter {
-                code: s[at],
+                code: s[at] as u64,
                 w0: word(s, at + 1),
                 w1: word(s, at + 9),
                 w2: word(s, at + 17),
@@ -73,7 +59,7 @@ impl Matter {
         if !has_room(out.len(), at, 33) {
             return false;
         }
-        out[at] = self.code;
+        out[at] = (self.code % 256) as u8;
         put_word(out, at + 1, self.w0);
         put_word(out, at + 9, self.w1);
         put_word(out, at + 17, self.w2);
@@ -95,18 +81,18 @@ impl Matter {
             & (self.w3 == other.w3)
     }
 
-    // The code letter is a basic prefix's: B or D.
+    // The code letter is a basic prefix's: B or D, 66 or 68.
     pub fn is_basic(self) -> bool
         ensures { λ r. ⌜ r ≡ isBasic self ⌝ }
     {
-        (self.code == b'B') | (self.code == b'D')
+        (self.code == 66) | (self.code == 68)
     }
 
-    // The code letter is a digest's: E to I.
+    // The code letter is a digest's: E to I, 69 to 73.
     pub fn is_said(self) -> bool
         ensures { λ r. ⌜ r ≡ isSaid self ⌝ }
     {
-        (b'E' <= self.code) & (self.code <= b'I')
+        (69 <= self.code) & (self.code <= 73)
     }
 }
 

@@ -8,11 +8,11 @@
 use Prim.Native.Nat.{ℕ, suc, _+_, _^_, _<_, _≤_}
 use mathlib.Core.Path.{_≡_, refl, ap, sym, subst, _∙_}
 use mathlib.Core.List.{List, [], _∷_, _++_}
-use mathlib.Core.Bool.{Bool, true, _&&_}
+use mathlib.Core.Bool.{Bool, true, false, _&&_, _||_}
 use native.Mathlib.Nat.{add-assoc, mod-eq-of-lt}
 use native.Mathlib.Omega.{arith}
-use borrow.Author.Tests.{eq-eqb, eqb-true, lt-ltb, ltb-true}
-use lib.Dec.{eqb, ltb, lit<}
+use borrow.Author.Tests.{eq-eqb, eqb-true, leb-true, lt-ltb, ltb-true}
+use lib.Dec.{eqb, leb, ltb, lit<}
 use lib.ListN.{length, take, drop, length-append}
 use Rattle.laws.specs.Number.{number, numberAt, digits, Bytes}
 use Rattle.laws.proofs.Number.{length-digits, number-below, number-at, digits-number, whole-number}
@@ -182,9 +182,9 @@ pub filled-good : (m : Matter) → Filled m → isMatter m ≡ true
 unfolding isMatter
 filled-good m f = rw (lt-ltb (m .w0) (256 ^ 8) (f .w0), lt-ltb (m .w1) (256 ^ 8) (f .w1), lt-ltb (m .w2) (256 ^ 8) (f .w2), lt-ltb (m .w3) (256 ^ 8) (f .w3))
 
-pub good-filled : (m : Matter) → isMatter m ≡ true → Filled m
+pub good-filled : (m : Matter) → m .code < 256 → isMatter m ≡ true → Filled m
 unfolding isMatter
-good-filled m h =
+good-filled m l h =
     let t0 = ltb (m .w0) (256 ^ 8) in
     let t1 = ltb (m .w1) (256 ^ 8) in
     let t2 = ltb (m .w2) (256 ^ 8) in
@@ -192,16 +192,38 @@ good-filled m h =
     let h1 = and-right t0 (t1 && (t2 && t3)) h in
     let h2 = and-right t1 (t2 && t3) h1 in
     record {
+      code = l;
       w0 = ltb-true (m .w0) (256 ^ 8) (and-left t0 (t1 && (t2 && t3)) h);
       w1 = ltb-true (m .w1) (256 ^ 8) (and-left t1 (t2 && t3) h1);
       w2 = ltb-true (m .w2) (256 ^ 8) (and-left t2 t3 h2);
       w3 = ltb-true (m .w3) (256 ^ 8) (and-right t2 t3 h2);
     }
 
--- a primitive that passes a test
-pub codes-if : (test : Matter → Bool) → Codes (readIf test) matterBytes (λ m. test m && isMatter m)
+-- the letters of each role are bytes
+letter-basic : (m : Matter) → isBasic m ≡ true → m .code < 256
+unfolding isBasic
+letter-basic m h = go (eqb (m .code) 66) refl h
+  where
+    go : (t : Bool) → eqb (m .code) 66 ≡ t → (t || eqb (m .code) 68) ≡ true → m .code < 256
+    go true e f = omega (arith, eqb-true (m .code) 66 e)
+    go false e f = omega (arith, eqb-true (m .code) 68 f)
+
+letter-said : (m : Matter) → isSaid m ≡ true → m .code < 256
+unfolding isSaid
+letter-said m h = omega (arith, leb-true (m .code) 73 (and-right (leb 69 (m .code)) (leb (m .code) 73) h))
+
+letter-either : (m : Matter) → isIdentifier m ≡ true → m .code < 256
+unfolding isIdentifier
+letter-either m h = go (isBasic m) refl h
+  where
+    go : (t : Bool) → isBasic m ≡ t → (t || isSaid m) ≡ true → m .code < 256
+    go true e f = letter-basic m e
+    go false e f = letter-said m f
+
+-- a primitive that passes a test, which no letter above a byte passes
+pub codes-if : (test : Matter → Bool) → ((m : Matter) → test m ≡ true → m .code < 256) → Codes (readIf test) matterBytes (λ m. test m && isMatter m)
 unfolding readIf
-codes-if test =
+codes-if test letter =
     record {
       sound = λ s c b h.
           let m = readMatter s (c .at) in
@@ -218,21 +240,21 @@ codes-if test =
           let g = length-matter x in
           let f : c .at + 33 ≤ length s = omega (arith, stands-fits s (c .at) (matterBytes x) (rw g (lit< tt)) st, g) in
           let e : readMatter s (c .at) ≡ x =
-          matter-at x (take (c .at) s) (drop (c .at + length (matterBytes x)) s) s (c .at) (good-filled x (and-right (test x) (isMatter x) l)) (stands-split s (c .at) (matterBytes x) st) (stands-place s (c .at) (matterBytes x) (rw g (lit< tt)) st) in
+          matter-at x (take (c .at) s) (drop (c .at + length (matterBytes x)) s) s (c .at) (good-filled x (letter x (and-left (test x) (isMatter x) l)) (and-right (test x) (isMatter x) l)) (stands-split s (c .at) (matterBytes x) st) (stands-place s (c .at) (matterBytes x) (rw g (lit< tt)) st) in
           rw (e, goes-on s c 33 o f, stays (placed (c .at + 33)) (test x) (and-left (test x) (isMatter x) l), length-matter);
     }
 
 pub codes-said : Codes readSaid saidBytes goodSaid
 unfolding readSaid goodSaid
-codes-said = codes-map saidOf (λ d. d .0) goodSaid (λ m h. (refl, h)) (λ d h. (refl, h)) (codes-if isSaid)
+codes-said = codes-map saidOf (λ d. d .0) goodSaid (λ m h. (refl, h)) (λ d h. (refl, h)) (codes-if isSaid letter-said)
 
 pub codes-prefix : Codes readPrefix prefixBytes goodPrefix
 unfolding readPrefix goodPrefix
-codes-prefix = codes-map prefixOf (λ p. p .0) goodPrefix (λ m h. (refl, h)) (λ p h. (refl, h)) (codes-if isBasic)
+codes-prefix = codes-map prefixOf (λ p. p .0) goodPrefix (λ m h. (refl, h)) (λ p h. (refl, h)) (codes-if isBasic letter-basic)
 
 pub codes-identifier : Codes readIdentifier matterBytes goodIdentifier
 unfolding readIdentifier goodIdentifier
-codes-identifier = codes-if isIdentifier
+codes-identifier = codes-if isIdentifier letter-either
 
 -- one byte more in front: the place behind it
 pub shift : (a m : ℕ) → a + 1 + m ≡ a + suc m

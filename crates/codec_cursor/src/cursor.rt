@@ -111,7 +111,7 @@ impl Cursor {
     pub fn said(self, s: &[u8]) -> SaidRead
         ensures { λ r. ⌜ viewSaid r ≡ readSaid (now (s .entry)) self ⌝ }
     {
-        let m = by_fields(Matter::read(s, self.at));
+        let m = Matter::read(s, self.at);
         let next = self.advance(s, 33).expect_that(m.is_said());
         SaidRead {
             value: Said(m),
@@ -122,7 +122,7 @@ impl Cursor {
     pub fn prefix(self, s: &[u8]) -> PrefixRead
         ensures { λ r. ⌜ viewPrefix r ≡ readPrefix (now (s .entry)) self ⌝ }
     {
-        let m = by_fields(Matter::read(s, self.at));
+        let m = Matter::read(s, self.at);
         let next = self.advance(s, 33).expect_that(m.is_basic());
         PrefixRead {
             value: BasicPrefix(m),
@@ -133,7 +133,7 @@ impl Cursor {
     pub fn identifier(self, s: &[u8]) -> MatterRead
         ensures { λ r. ⌜ viewMatter r ≡ readIdentifier (now (s .entry)) self ⌝ }
     {
-        let value = by_fields(Matter::read(s, self.at));
+        let value = Matter::read(s, self.at);
         let next = self.advance(s, 33)
             .expect_that(value.is_basic() | value.is_said());
         MatterRead { value, next }
@@ -165,25 +165,12 @@ impl Cursor {
     }
 }
 
-// The primitive itself. Of one that a call hands back whole, with the gap behind its letter, the compiler makes slow copies.
-fn by_fields(m: Matter) -> Matter
-    ensures { λ r. ⌜ r ≡ m ⌝ }
-{
-    Matter {
-        code: m.code,
-        w0: m.w0,
-        w1: m.w1,
-        w2: m.w2,
-        w3: m.w3,
-    }
-}
-
 // A primitive of this letter, which is asked for its role.
 fn lettered(code: u8) -> Matter
     ensures { λ r. ⌜ r ≡ letterOnly code ⌝ }
 {
     Matter {
-        code,
+        code: code as u64,
         w0: 0,
         w1: 0,
         w2: 0,

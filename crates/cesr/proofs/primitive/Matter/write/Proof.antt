@@ -12,10 +12,10 @@ use Rattle.cesr.proofs.primitive.Matter.write.Statement.{statement}
 use Rattle.cesr.proofs.primitive.Matter.write.Tie as tie
 
 -- the test held, so the 33 bytes are there
-fits : (c : tie.Else1) → c .before .before .before .args .at + 33 ≤ length (now (c .before .before .before .args .out))
+fits : (c : tie.After-struct-known) → c .before .before .before .before .args .at + 33 ≤ length (now (c .before .before .before .before .args .out))
 fits c =
-    let a = c .before .before .before .args in
-    leb-true (a .at + 33) (length (now (a .out))) (sym (c .before .has-room .ensures) ∙ not-false _ (c .if1 .left))
+    let a = c .before .before .before .before .args in
+    leb-true (a .at + 33) (length (now (a .out))) (sym (c .before .before .has-room .ensures) ∙ not-false _ (c .before .if1 .left))
 
 has-room-requires : tie.Need-has-room-requires
 has-room-requires c κs = search needs
@@ -24,6 +24,9 @@ returns : tie.Need-returns
 returns c =
     let a = c .before .before .before .args in
     refused (now (a .out)) (a .at) 33 (matterBytes (a .self)) (length-matter (a .self)) (sym (c .before .has-room .ensures) ∙ not-true _ (c .if1 .taken))
+
+cast-out : tie.Need-cast-out
+cast-out c = search needs
 
 slice-write-out : tie.Need-slice-write-out
 slice-write-out c = omega (arith, fits c)
@@ -67,8 +70,9 @@ returns-2 c =
     let b10 = b6 .before .before .before .before in
     let b14 = b10 .before .before .before .before in
     let b16 = b14 .before .before in
-    let a = b16 .before .before .before .args in
-    stored (now (a .out)) (a .at) 33 (matterBytes (a .self)) _ (length-matter (a .self)) (sym (b16 .before .has-room .ensures) ∙ not-false _ (b16 .if1 .left)) (b2 .put-word4 .ensures ∙ rw (b6 .put-word3 .ensures, b10 .put-word2 .ensures, b14 .put-word .ensures) (matter-sets (now (a .out)) (a .at) (a .self)))
+    let b17 = b16 .before in
+    let a = b17 .before .before .before .args in
+    stored (now (a .out)) (a .at) 33 (matterBytes (a .self)) _ (length-matter (a .self)) (sym (b17 .before .has-room .ensures) ∙ not-false _ (b17 .if1 .left)) (b2 .put-word4 .ensures ∙ rw (b6 .put-word3 .ensures, b10 .put-word2 .ensures, b14 .put-word .ensures) (matter-sets (now (a .out)) (a .at) (a .self)))
 
 pub write-spec : {M : Type 1} → statement M
 write-spec =
@@ -76,6 +80,7 @@ write-spec =
     (tie.spec
     has-room-requires
     returns
+    cast-out
     slice-write-out
     add-put-word
     put-word-requires

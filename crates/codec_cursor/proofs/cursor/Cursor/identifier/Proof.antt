@@ -6,9 +6,6 @@ use Rattle.codec_cursor.proofs.cursor.Cursor.identifier.Tie as tie
 read-requires : tie.Need-read-requires
 read-requires c κs = search needs
 
-by-fields-requires : tie.Need-by-fields-requires
-by-fields-requires c κs = search needs
-
 advance-requires : tie.Need-advance-requires
 advance-requires c κs = search needs
 
@@ -27,14 +24,13 @@ returns c =
     let b1 = c .before in
     let b2 = b1 .before in
     let b3 = b2 .before in
-    rw (c .expect-that .ensures, b1 .is-said .ensures, b2 .is-basic .ensures, b3 .advance .ensures, b3 .before .by-fields .ensures, b3 .before .before .read .ensures)
+    rw (c .expect-that .ensures, b1 .is-said .ensures, b2 .is-basic .ensures, b3 .advance .ensures, b3 .before .read .ensures)
 
 pub identifier-spec : {M : Type 1} → statement M
 identifier-spec =
     tie.close
     (tie.spec
     read-requires
-    by-fields-requires
     advance-requires
     is-basic-requires
     is-said-requires

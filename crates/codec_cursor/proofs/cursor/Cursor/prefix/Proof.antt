@@ -6,9 +6,6 @@ use Rattle.codec_cursor.proofs.cursor.Cursor.prefix.Tie as tie
 read-requires : tie.Need-read-requires
 read-requires c κs = search needs
 
-by-fields-requires : tie.Need-by-fields-requires
-by-fields-requires c κs = search needs
-
 advance-requires : tie.Need-advance-requires
 advance-requires c κs = search needs
 
@@ -23,9 +20,9 @@ unfolding readPrefix readIf
 returns c =
     let b1 = c .before in
     let b2 = b1 .before in
-    rw (c .expect-that .ensures, b1 .is-basic .ensures, b2 .advance .ensures, b2 .before .by-fields .ensures, b2 .before .before .read .ensures)
+    rw (c .expect-that .ensures, b1 .is-basic .ensures, b2 .advance .ensures, b2 .before .read .ensures)
 
 pub prefix-spec : {M : Type 1} → statement M
 prefix-spec =
     tie.close
-    (tie.spec read-requires by-fields-requires advance-requires is-basic-requires expect-that-requires returns)
+    (tie.spec read-requires advance-requires is-basic-requires expect-that-requires returns)
