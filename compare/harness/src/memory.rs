@@ -49,8 +49,9 @@ fn put(b: &mut [u8], at: usize, w: u64) {
     b[at..at + 8].copy_from_slice(&w.to_ne_bytes());
 }
 
+/// The letter has a word. One that is no byte is no letter either, as 0 is none.
 fn matter(b: &[u8], at: usize) -> Prim {
-    let mut p = [b[at]; 33];
+    let mut p = [u8::try_from(word(b, at)).unwrap_or(0); 33];
     for k in 0..4 {
         p[1 + 8 * k..9 + 8 * k].copy_from_slice(&word(b, at + 8 + 8 * k).to_be_bytes());
     }
@@ -58,7 +59,7 @@ fn matter(b: &[u8], at: usize) -> Prim {
 }
 
 fn put_matter(b: &mut [u8], at: usize, p: &Prim) {
-    b[at] = p[0];
+    put(b, at, u64::from(p[0]));
     for k in 0..4 {
         put(b, at + 8 + 8 * k, u64::from_be_bytes(p[1 + 8 * k..9 + 8 * k].try_into().expect("8 bytes")));
     }
@@ -172,24 +173,7 @@ impl Block {
     }
 }
 
-/// Bytes of a block that belong to no field: behind the letter of a primitive, and behind a registry's toad.
+/// Bytes of a block that belong to no field: behind a registry's toad.
 pub fn is_padding(at: usize) -> bool {
-    let matter = |at: usize| (1..8).contains(&at);
-    let registry = |at: usize| match at {
-        0..80 => matter(at % MATTER),
-        96..136 => matter(at - 96),
-        140..144 => true,
-        BACKERS..800 => matter((at - BACKERS) % MATTER),
-        _ => false,
-    };
-    let row = |at: usize| match at {
-        0..80 => matter(at % MATTER),
-        96..136 => matter(at - 96),
-        _ => false,
-    };
-    match at {
-        0..COUNT => registry(at % REGISTRY),
-        ROWS..ROW_COUNT => row((at - ROWS) % ROW),
-        _ => false,
-    }
+    at < COUNT && (CONFIGS - 4..CONFIGS).contains(&(at % REGISTRY))
 }
