@@ -19,6 +19,7 @@ use Rattle.registry_error.specs.declared.error.RegistryRejection.the-variants.{
 use Rattle.registry_answer.specs.Answers.{acceptIf, firstOf}
 use Rattle.registry_verification.specs.Receipts.{hasGood, receipts}
 use Rattle.registry_verification.specs.Sequence.{nextSn}
+use Rattle.registry_transition.specs.Transitions.{transition}
 use Rattle.registry_members.specs.Updated.{survivors, updatedMembers}
 use Rattle.registry_backer.specs.Backers.{standsAt, enoughReceipts, backedBy, authenticateBacker}
 use Rattle.registry_authentication.specs.Issuers.{authenticateIssuer}
@@ -43,7 +44,7 @@ unfolding goodMessage all goodSaid goodIdentifier goodSn goodToad goodPrefixes i
 rotations = record { good-first = refl; good-second = refl; whole = record { reads = refl; registries = refl; rows = refl }; first = refl; second = refl }
 
 pub pairs : Computed onePlain issued revoked (0 ∷ 0 ∷ []) (5 ∷ 0 ∷ [])
-unfolding goodMessage all goodSaid goodIdentifier goodSn isMatter isBasic isSaid isIdentifier goodSignature goodSource goodAnchors goodAnchor numbersBy effect sound holds distinct has soundRegistry checkMembers check first exactOk noBackers hasCode find put eqMatter I.inceptMessage I.issAnswer C.ingestMessage C.ingestAnswer C.revAnswer C.transition firstOf acceptIf nextSn value snOf authenticateIssuer wellCredential
+unfolding goodMessage all goodSaid goodIdentifier goodSn isMatter isBasic isSaid isIdentifier goodSignature goodSource goodAnchors goodAnchor numbersBy effect sound holds distinct has soundRegistry checkMembers check first exactOk noBackers hasCode find put eqMatter I.inceptMessage I.issAnswer C.ingestMessage C.ingestAnswer C.revAnswer transition firstOf acceptIf nextSn value snOf authenticateIssuer wellCredential
 pairs = record { good-first = refl; good-second = refl; whole = record { reads = refl; registries = refl; rows = refl }; first = refl; second = refl }
 
 pub inceptions : Computed empty inception issued (0 ∷ 0 ∷ []) (2 ∷ 0 ∷ [])
@@ -69,9 +70,9 @@ unfolding sound holds all distinct has eqMatter soundRegistry checkMembers check
 met-whole = record { reads = refl; registries = refl; rows = refl }
 
 pub met-one : numbersBy plainAndBacked (asked firstRotation ∷ asked secondRotation ∷ asked issued ∷ asked revoked ∷ asked absent ∷ nothing Malformed ∷ []) ≡ 0 ∷ 0 ∷ 0 ∷ 0 ∷ 5 ∷ 1 ∷ []
-unfolding numbersBy effect sound holds all distinct has soundRegistry checkMembers check first breaks hasMember exactOk noBackers hasCode find put eqMatter isSaid R.ingestMessage R.vrtAnswer firstOf acceptIf nextSn value snOf authenticateIssuer R.vrtBackers checkDeltas checkCurrent updatedMembers survivors N.thresholdFits enoughReceipts receipts hasGood count I.inceptMessage I.issAnswer C.ingestMessage C.ingestAnswer C.revAnswer C.transition wellCredential
+unfolding numbersBy effect sound holds all distinct has soundRegistry checkMembers check first breaks hasMember exactOk noBackers hasCode find put eqMatter isSaid R.ingestMessage R.vrtAnswer firstOf acceptIf nextSn value snOf authenticateIssuer R.vrtBackers checkDeltas checkCurrent updatedMembers survivors N.thresholdFits enoughReceipts receipts hasGood count I.inceptMessage I.issAnswer C.ingestMessage C.ingestAnswer C.revAnswer transition wellCredential
 met-one = refl
 
 pub met-other : numbersBy plainAndBacked (nothing Malformed ∷ asked issued ∷ asked firstRotation ∷ asked absent ∷ asked revoked ∷ asked secondRotation ∷ []) ≡ 1 ∷ 0 ∷ 0 ∷ 5 ∷ 0 ∷ 0 ∷ []
-unfolding numbersBy effect sound holds all distinct has soundRegistry checkMembers check first breaks hasMember exactOk noBackers hasCode find put eqMatter isSaid R.ingestMessage R.vrtAnswer firstOf acceptIf nextSn value snOf authenticateIssuer R.vrtBackers checkDeltas checkCurrent updatedMembers survivors N.thresholdFits enoughReceipts receipts hasGood count I.inceptMessage I.issAnswer C.ingestMessage C.ingestAnswer C.revAnswer C.transition wellCredential
+unfolding numbersBy effect sound holds all distinct has soundRegistry checkMembers check first breaks hasMember exactOk noBackers hasCode find put eqMatter isSaid R.ingestMessage R.vrtAnswer firstOf acceptIf nextSn value snOf authenticateIssuer R.vrtBackers checkDeltas checkCurrent updatedMembers survivors N.thresholdFits enoughReceipts receipts hasGood count I.inceptMessage I.issAnswer C.ingestMessage C.ingestAnswer C.revAnswer transition wellCredential
 met-other = refl

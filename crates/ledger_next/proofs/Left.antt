@@ -32,7 +32,8 @@ use Rattle.ledger_step.specs.Steps.Effect.{newRegistry, setRegistry, newRow, se
 use Rattle.ledger_next.specs.declared.call.Next.{Next}
 use Rattle.ledger_answers.specs.Checks.{inceptionAnswer, rotationAnswer, issueAnswer, revocationAnswer}
 use Rattle.ledger_asked.specs.Names.{decodes}
-use Rattle.ledger_next.specs.Effects.{behindReading, ifRead, inceptionNamed, rotationNamed, issueNamed, revocationNamed, Leaves}
+use Rattle.ledger_reading.specs.Readings.{behindReading}
+use Rattle.ledger_next.specs.Effects.{ifRead, inceptionNamed, rotationNamed, issueNamed, revocationNamed, Leaves}
 use Rattle.ledger_next.proofs.ReadingLaws.{both-after, both-accept}
 
 -- an answer that accepts

@@ -28,7 +28,7 @@ use Rattle.ledger_step.specs.Steps.{Effect, afterFold}
 use Rattle.ledger_asked.specs.Names.{decodes}
 use Rattle.ledger_asked.proofs.RequestLaws.{unread}
 use Rattle.ledger_answers.specs.Checks.{askedAnswer, inceptionAnswer, rotationAnswer, issueAnswer, revocationAnswer}
-use Rattle.ledger_next.specs.Effects.{behindReading, readsBy}
+use Rattle.ledger_reading.specs.Readings.{behindReading, readsBy}
 
 -- ---- a check behind another
 pub both-after : (a b : Answer) (e : Effect) → afterFold (orElse a b) e ≡ afterFold a (afterFold b e)

@@ -1,15 +1,13 @@
 -- What an attempt comes to, from what it names and what the ledger holds of that (docs/RULES.md, "Ledger", "Orders").
 use Prim.Native.Nat.{ℕ, _+_}
 use mathlib.Core.Path.{_≡_}
-use mathlib.Core.Bool.{Bool, true, cond}
+use mathlib.Core.Bool.{Bool, cond}
 use mathlib.Core.List.{List}
 use lib.Dec.{eqb, ltb}
 use Rattle.cesr.specs.declared.primitive.Said.{Said}
 use Rattle.registry_state.specs.declared.state.RegistryState.{RegistryState}
 use Rattle.registry_state.specs.declared.state.CredentialState.{CredentialState}
-use Rattle.registry_answer.specs.Answers.{acceptIf, orElse}
-use Rattle.registry_error.specs.Errors.{answerNumber}
-use Rattle.registry_error.specs.declared.error.Answer.{Answer}
+use Rattle.registry_answer.specs.Answers.{acceptIf}
 use Rattle.registry_error.specs.declared.error.Answer.the-variants.{Accepted, Rejected}
 use Rattle.registry_error.specs.declared.error.RegistryRejection.the-variants.{Malformed}
 use Rattle.registry_inception.specs.InceptionFolds as N
@@ -25,16 +23,9 @@ use Rattle.ledger_asked.specs.Names.{decodes}
 use Rattle.ledger_answers.specs.Checks.{askedAnswer, inceptionAnswer, rotationAnswer, issueAnswer, revocationAnswer}
 use Rattle.ledger_next.specs.declared.call.Next.{Next}
 
--- 1 of bytes that are no attempt: before a check, and before an effect
-abbrev pub behindReading : Bool → Answer → Answer
-behindReading read checked = orElse (acceptIf read Malformed) checked
-
+-- 1 of bytes that are no attempt, before an effect
 abbrev pub ifRead : List ℕ → Effect → Effect
 ifRead s e = afterFold (acceptIf (decodes s) Malformed) e
-
--- whether the bytes are an attempt, where a fold of them has answered: a fold answers 1 where they are none
-unfoldable pub readsBy : List ℕ → Answer → Bool
-readsBy s folded = cond (eqb (answerNumber folded) 1) (decodes s) true
 
 -- the four folds, each behind what is checked before it
 abbrev pub inceptionNamed : List ℕ → Bool → ℕ → Effect

@@ -1,13 +1,13 @@
 // What an attempt leaves of the registry and the row that it names (docs/RULES.md, "Ledger", "Next states"). Each function hands back what was handed in, but for the one state that an accepted attempt changes.
 use crate::call::Next;
-use crate::reading::asked_without_fold;
-use crate::reading::behind_reading;
 use ledger_answers::answers::asked_answer;
 use ledger_answers::answers::inception_answer;
 use ledger_answers::answers::issue_answer;
 use ledger_answers::answers::revocation_answer;
 use ledger_answers::answers::rotation_answer;
 use ledger_asked::call::Named;
+use ledger_reading::reading::asked_without_fold;
+use ledger_reading::reading::behind_reading;
 use registry::registry::ingest as ingest_registry;
 use registry_answer::answer::accepts;
 use registry_credential_state::credential_state::ingest as ingest_credential;

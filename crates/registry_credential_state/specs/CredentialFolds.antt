@@ -12,23 +12,14 @@ use Rattle.registry_state.specs.declared.state.RegistryState.{RegistryState}
 use Rattle.registry_state.specs.declared.state.CredentialState.{CredentialState}
 use Rattle.registry_wire.specs.Attempts.{Message, Decoded, decodeOf}
 use Rattle.registry_wire.specs.Attempts.Decoded.{malformed, decoded}
-use Rattle.registry_error.specs.declared.error.RegistryRejection.the-variants.{Malformed, NotCredentialTransition, InconsistentRegistry, SimpleEventOnBackerRegistry, BackedEventOnBackerlessRegistry, PriorDigestMismatch, InconsistentCredential}
+use Rattle.registry_error.specs.declared.error.RegistryRejection.the-variants.{Malformed, NotCredentialTransition, InconsistentRegistry, SimpleEventOnBackerRegistry, BackedEventOnBackerlessRegistry}
 use Rattle.registry_error.specs.declared.error.Answer.{Answer}
 use Rattle.registry_error.specs.declared.error.Answer.the-variants.{Rejected}
 use Rattle.registry_answer.specs.Answers.{accepts, acceptIf, orElse, firstOf}
 use Rattle.registry_authentication.specs.Issuers.{anchored, authenticateIssuer}
 use Rattle.registry_backer.specs.Backers.{isBackerless, namesRegistry, authenticateBacker}
-use Rattle.registry_verification.specs.Sequence.{nextSn}
+use Rattle.registry_transition.specs.Transitions.{transition}
 use Rattle.registry_issue.specs.IssueFolds.{Outcome}
-
--- what is left of a rev or brv: 28, 15 to 17
-unfoldable pub transition : CredentialState → Said → Said → Answer
-transition w credential prior =
-    firstOf
-    (acceptIf (eqSaid credential (w .credential)) InconsistentCredential
-    ∷ nextSn (w .sn) snOne
-    ∷ acceptIf (eqSaid prior (w .head)) PriorDigestMismatch
-    ∷ [])
 
 -- a rev after 9: 10, 12, 18 to 21, 28, 15 to 17
 unfoldable pub revAnswer : Registry → CredentialState → Said → Said → Said → Said → Message → Answer

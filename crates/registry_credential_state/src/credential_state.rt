@@ -17,7 +17,7 @@ use registry_issue::credential_state::CredentialOutcome;
 use registry_issue::credential_state::refused;
 use registry_state::state::CredentialState;
 use registry_state::state::RegistryState;
-use registry_verification::sequence::next_sn;
+use registry_transition::transition::transition;
 use registry_wire::attempt::Attempt;
 ghost use mathlib.Core.Path.{_≡_};
 ghost use Rattle.cesr.specs.Primitives.{saidAt};
@@ -26,21 +26,7 @@ ghost use Rattle.registry_state.specs.States.{viewRegistry};
 ghost use Rattle.registry_wire.specs.Attempts.{viewAttempt};
 ghost use Rattle.registry_authentication.specs.Issuers.{Anchored};
 ghost use Rattle.registry_issue.specs.IssueFolds.{viewOutcome};
-ghost use Rattle.registry_credential_state.specs.CredentialFolds.{transition, revAnswer, brvAnswer, ingestEvent, ingestMessage, ingestOf};
-
-// What is left of a rev or brv: the credential, and its place behind the held state.
-fn transition(w: CredentialState, credential: Said, prior: Said) -> Answer
-    ensures { λ r. ⌜ r ≡ transition w credential prior ⌝ }
-{
-    let one = Sn { hi: 0, lo: 1 };
-    let named = accept_if(
-        credential.same(w.credential),
-        RegistryRejection::InconsistentCredential,
-    );
-    let place = next_sn(w.sn, one);
-    let behind = accept_if(prior.same(w.head), RegistryRejection::PriorDigestMismatch);
-    or_else(named, or_else(place, or_else(behind, Answer::Accepted)))
-}
+ghost use Rattle.registry_credential_state.specs.CredentialFolds.{revAnswer, brvAnswer, ingestEvent, ingestMessage, ingestOf};
 
 // A rev's checks behind its kind.
 fn rev_answer(g: RegistryState, w: CredentialState, a: Attempt, s: &[u8]) -> Answer

@@ -42,7 +42,8 @@ use Rattle.registry.specs.RegistryFolds.{vrtBackers, vrtAnswer}
 use Rattle.registry_issue.specs.IssueFolds as issues
 use Rattle.registry_credential_state.specs.CredentialFolds as credentials
 use Rattle.registry_issue.specs.IssueFolds.{issAnswer, bisAnswer}
-use Rattle.registry_credential_state.specs.CredentialFolds.{transition, revAnswer, brvAnswer}
+use Rattle.registry_transition.specs.Transitions.{transition}
+use Rattle.registry_credential_state.specs.CredentialFolds.{revAnswer, brvAnswer}
 use Rattle.registry_laws.specs.Positions.{alone, listsOf}
 use Rattle.registry_laws.proofs.Placed.{Placed, other-placed, if-placed, or-placed, cond-placed, all-placed, check-placed, else-placed}
 

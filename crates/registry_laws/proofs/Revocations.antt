@@ -36,7 +36,8 @@ use Rattle.registry_error.specs.declared.error.Answer.the-variants.{Rejected}
 use Rattle.registry_error.specs.declared.error.RegistryRejection.the-variants.{Malformed, InconsistentRegistry, InconsistentCredential}
 use Rattle.registry_backer.specs.Backers.{namesRegistry}
 use Rattle.registry_issue.specs.IssueFolds.{Outcome}
-use Rattle.registry_credential_state.specs.CredentialFolds.{transition, revAnswer, brvAnswer, ingestEvent, ingestAnswer, revoked, ingestMessage, ingestDecoded, ingestOf}
+use Rattle.registry_transition.specs.Transitions.{transition}
+use Rattle.registry_credential_state.specs.CredentialFolds.{revAnswer, brvAnswer, ingestEvent, ingestAnswer, revoked, ingestMessage, ingestDecoded, ingestOf}
 use Rattle.registry_verification.specs.Sequence.{nextSn}
 use Rattle.registry_answer.proofs.AnswerLaws.{or-first, or-second, passed}
 use Rattle.registry_inception.proofs.InceptionLaws.{good-event}

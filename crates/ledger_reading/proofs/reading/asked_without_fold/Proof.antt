@@ -1,8 +1,8 @@
 use Rattle.registry_answer.specs.Answers.{acceptIf, firstOf}
 use Rattle.ledger_answers.specs.Checks.{askedAnswer}
 use borrow.Author.Needs.{needs}
-use Rattle.ledger_next.proofs.reading.asked_without_fold.Statement.{statement}
-use Rattle.ledger_next.proofs.reading.asked_without_fold.Tie as tie
+use Rattle.ledger_reading.proofs.reading.asked_without_fold.Statement.{statement}
+use Rattle.ledger_reading.proofs.reading.asked_without_fold.Tie as tie
 
 decodes-requires : tie.Need-decodes-requires
 decodes-requires c κs = search needs

@@ -1,7 +1,7 @@
-use Rattle.ledger_next.specs.Effects.{readsBy}
+use Rattle.ledger_reading.specs.Readings.{readsBy}
 use borrow.Author.Needs.{needs}
-use Rattle.ledger_next.proofs.reading.reads.Statement.{statement}
-use Rattle.ledger_next.proofs.reading.reads.Tie as tie
+use Rattle.ledger_reading.proofs.reading.reads.Statement.{statement}
+use Rattle.ledger_reading.proofs.reading.reads.Tie as tie
 
 is-one-requires : tie.Need-is-one-requires
 is-one-requires c κs = search needs

@@ -1,6 +1,6 @@
 use borrow.Author.Needs.{needs}
-use Rattle.ledger_next.proofs.reading.is_one.Statement.{statement}
-use Rattle.ledger_next.proofs.reading.is_one.Tie as tie
+use Rattle.ledger_reading.proofs.reading.is_one.Statement.{statement}
+use Rattle.ledger_reading.proofs.reading.is_one.Tie as tie
 
 enum-told : tie.Need-enum-told
 enum-told c = search needs

@@ -10,7 +10,7 @@ ghost use lib.Dec.{eqb};
 ghost use Rattle.registry_error.specs.Errors.{answerNumber};
 ghost use Rattle.ledger_asked.specs.Names.{decodes};
 ghost use Rattle.ledger_answers.specs.Checks.{askedAnswer};
-ghost use Rattle.ledger_next.specs.Effects.{readsBy, behindReading};
+ghost use Rattle.ledger_reading.specs.Readings.{readsBy, behindReading};
 
 fn is_one(answer: Answer) -> bool
     ensures { λ r. ⌜ r ≡ eqb (answerNumber answer) 1 ⌝ }
@@ -32,7 +32,7 @@ fn reads(s: &[u8], folded: Answer) -> bool
 }
 
 // What is checked around a fold, behind 1 of bytes that are no attempt.
-pub(crate) fn behind_reading(s: &[u8], folded: Answer, checked: Answer) -> Answer
+pub fn behind_reading(s: &[u8], folded: Answer, checked: Answer) -> Answer
     ensures { λ r. ⌜ r ≡ behindReading (readsBy (now (s .entry)) folded) checked ⌝ }
 {
     let read = accept_if(reads(s, folded), RegistryRejection::Malformed);
@@ -40,7 +40,7 @@ pub(crate) fn behind_reading(s: &[u8], folded: Answer, checked: Answer) -> Answe
 }
 
 // What is checked before every fold, where none is run. Of a ledger that breaks a reading rule the bytes are not asked.
-pub(crate) fn asked_without_fold(ok: bool, s: &[u8], refusal: u8) -> Answer
+pub fn asked_without_fold(ok: bool, s: &[u8], refusal: u8) -> Answer
     ensures { λ r. ⌜ r ≡ askedAnswer ok (decodes (now (s .entry))) refusal ⌝ }
 {
     if ok {

@@ -1,6 +1,6 @@
 use borrow.Author.Needs.{needs}
-use Rattle.ledger_next.proofs.reading.behind_reading.Statement.{statement}
-use Rattle.ledger_next.proofs.reading.behind_reading.Tie as tie
+use Rattle.ledger_reading.proofs.reading.behind_reading.Statement.{statement}
+use Rattle.ledger_reading.proofs.reading.behind_reading.Tie as tie
 
 reads-requires : tie.Need-reads-requires
 reads-requires c κs = search needs

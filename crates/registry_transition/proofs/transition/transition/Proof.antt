@@ -1,8 +1,8 @@
-use Rattle.registry_credential_state.specs.CredentialFolds.{transition}
+use Rattle.registry_transition.specs.Transitions.{transition}
 use Rattle.registry_answer.specs.Answers.{firstOf}
 use borrow.Author.Needs.{needs}
-use Rattle.registry_credential_state.proofs.credential_state.transition.Statement.{statement}
-use Rattle.registry_credential_state.proofs.credential_state.transition.Tie as tie
+use Rattle.registry_transition.proofs.transition.transition.Statement.{statement}
+use Rattle.registry_transition.proofs.transition.transition.Tie as tie
 
 same-requires : tie.Need-same-requires
 same-requires c κs = search needs

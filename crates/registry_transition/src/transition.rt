@@ -1,0 +1,25 @@
+// The place of a revocation behind the held state of its credential (docs/RULES.md, "Orders").
+use cesr::number::Sn;
+use cesr::primitive::Said;
+use registry_answer::answer::accept_if;
+use registry_answer::answer::or_else;
+use registry_error::error::Answer;
+use registry_error::error::RegistryRejection;
+use registry_state::state::CredentialState;
+use registry_verification::sequence::next_sn;
+ghost use mathlib.Core.Path.{_≡_};
+ghost use Rattle.registry_transition.specs.Transitions.{transition};
+
+// What is left of a rev or brv: the credential, and its place behind the held state.
+pub fn transition(w: CredentialState, credential: Said, prior: Said) -> Answer
+    ensures { λ r. ⌜ r ≡ transition w credential prior ⌝ }
+{
+    let one = Sn { hi: 0, lo: 1 };
+    let named = accept_if(
+        credential.same(w.credential),
+        RegistryRejection::InconsistentCredential,
+    );
+    let place = next_sn(w.sn, one);
+    let behind = accept_if(prior.same(w.head), RegistryRejection::PriorDigestMismatch);
+    or_else(named, or_else(place, or_else(behind, Answer::Accepted)))
+}
