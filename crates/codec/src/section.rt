@@ -233,7 +233,7 @@ pub fn read_seal(c: Cursor, s: &[u8]) -> SealRead
 }
 
 // Behind a seal that is not wanted. It is held to its layout.
-pub fn pass_seal(c: Cursor, s: &[u8]) -> Cursor
+fn pass_seal(c: Cursor, s: &[u8]) -> Cursor
     ensures { λ r. ⌜ r ≡ readSeal (now (s .entry)) c .next ⌝ }
 {
     let k = c.byte(s);

@@ -1,10 +1,11 @@
 // An event: its kind byte, then six sections by kind (docs/RULES.md, "Bytes").
 use cesr::number::Sn;
 use codec::section::pass_prefixes;
-use codec::section::pass_seal;
 use codec::section::read_configs;
+use codec::section::read_seal;
 use codec::section::read_toad;
 use codec_cursor::cursor::Cursor;
+use events::seal::Seal;
 use events_tel::config::Configs;
 use events_tel::tel::Kind;
 use events_tel::tel::Listed;
@@ -20,9 +21,9 @@ pub struct EventRead {
     pub next: Cursor,
 }
 
-// An event with its other fields blank.
-fn blank(kind: Kind, said: usize) -> TelEvent
-    ensures { λ r. ⌜ (r .kind ≡ kind) × (r .said ≡ said) ⌝ }
+// An event with its other fields blank. A kind that carries no seal has Digest there.
+fn blank(kind: Kind, said: usize, seal: Seal) -> TelEvent
+    ensures { λ r. ⌜ (r .kind ≡ kind) × (r .said ≡ said) × (r .seal ≡ seal) ⌝ }
 {
     let toad = Toad::from_wire(0);
     let configs = Configs::empty();
@@ -40,26 +41,25 @@ fn blank(kind: Kind, said: usize) -> TelEvent
         configs,
         backers: members,
         additions: members,
-        seal: start,
+        seal,
     }
 }
 
-// A credential's event: where its digests and its seal stand.
+// A credential's event: where its digests stand, and its seal.
 fn of_credential(
     kind: Kind,
     said: usize,
     credential: usize,
     registry: usize,
     prior: usize,
-    seal: Cursor,
+    seal: Seal,
 ) -> TelEvent
     ensures { λ r. ⌜ (r .kind ≡ kind) × (r .said ≡ said) × (r .credential ≡ credential) × (r .registry ≡ registry) × (r .prior ≡ prior) × (r .seal ≡ seal) ⌝ }
 {
-    let mut e = blank(kind, said);
+    let mut e = blank(kind, said, seal);
     e.credential = credential;
     e.registry = registry;
     e.prior = prior;
-    e.seal = seal;
     e
 }
 
@@ -79,7 +79,7 @@ fn read_vcp(c: Cursor, s: &[u8]) -> EventRead
     let configs = read_configs(toad.next, s);
     let backers = pass_prefixes(configs.next, s);
     let next = backers.next.count(s, 0).count(s, 0);
-    let mut value = blank(Kind::Vcp, vcp.at);
+    let mut value = blank(Kind::Vcp, vcp.at, Seal::Digest);
     let toad = toad.value;
     let configs = configs.value;
     let backers = backers.value;
@@ -101,7 +101,7 @@ fn read_vrt(c: Cursor, s: &[u8]) -> EventRead
     let cuts = pass_prefixes(toad.next.count(s, 0), s);
     let additions = pass_prefixes(cuts.next, s);
     let next = additions.next.count(s, 0);
-    let mut value = blank(Kind::Vrt, vrt.at);
+    let mut value = blank(Kind::Vrt, vrt.at, Seal::Digest);
     let sn = sn.value;
     let toad = toad.value;
     let cuts = cuts.value;
@@ -122,7 +122,14 @@ fn read_iss(c: Cursor, s: &[u8]) -> EventRead
     let credential = iss.pass_said(s);
     let registry = credential.pass_said(s);
     let next = pass_empty(registry.pass_said(s), s).count(s, 0);
-    let value = of_credential(Kind::Iss, iss.at, credential.at, registry.at, 0, c);
+    let value = of_credential(
+        Kind::Iss,
+        iss.at,
+        credential.at,
+        registry.at,
+        0,
+        Seal::Digest,
+    );
     EventRead { value, next }
 }
 
@@ -134,7 +141,14 @@ fn read_rev(c: Cursor, s: &[u8]) -> EventRead
     let registry = credential.pass_said(s);
     let prior = registry.pass_said(s);
     let next = pass_empty(prior.pass_said(s), s).count(s, 0);
-    let value = of_credential(Kind::Rev, rev.at, credential.at, registry.at, prior.at, c);
+    let value = of_credential(
+        Kind::Rev,
+        rev.at,
+        credential.at,
+        registry.at,
+        prior.at,
+        Seal::Digest,
+    );
     EventRead { value, next }
 }
 
@@ -144,8 +158,9 @@ fn read_bis(c: Cursor, s: &[u8]) -> EventRead
     let bis = c.count(s, 3);
     let credential = bis.pass_said(s);
     let registry = credential.pass_said(s);
-    let seal = pass_empty(registry.pass_said(s), s).count(s, 1);
-    let next = pass_seal(seal, s);
+    let own = read_seal(pass_empty(registry.pass_said(s), s).count(s, 1), s);
+    let seal = own.value;
+    let next = own.next;
     let value = of_credential(Kind::Bis, bis.at, credential.at, registry.at, 0, seal);
     EventRead { value, next }
 }
@@ -156,8 +171,9 @@ fn read_brv(c: Cursor, s: &[u8]) -> EventRead
     let brv = c.count(s, 3);
     let credential = brv.pass_said(s);
     let prior = credential.pass_said(s);
-    let seal = pass_empty(prior.pass_said(s), s).count(s, 1);
-    let next = pass_seal(seal, s);
+    let own = read_seal(pass_empty(prior.pass_said(s), s).count(s, 1), s);
+    let seal = own.value;
+    let next = own.next;
     let value = of_credential(Kind::Brv, brv.at, credential.at, 0, prior.at, seal);
     EventRead { value, next }
 }

@@ -1,15 +1,18 @@
 -- The six events, each with what it carries (docs/RULES.md, "Event kinds").
 use Prim.Native.Nat.{ℕ, min}
 use mathlib.Core.List.{List}
+use Rattle.cesr.specs.Primitives.{readMatter, saidAt}
 use Rattle.cesr.specs.declared.number.Sn.{Sn}
 use Rattle.cesr.specs.declared.primitive.Matter.{Matter}
 use Rattle.cesr.specs.declared.primitive.Said.{Said}
 use Rattle.cesr.specs.declared.primitive.BasicPrefix.{BasicPrefix}
+use Rattle.events_tel.specs.Configs.{viewConfigs}
 use Rattle.events.specs.declared.seal.Seal.{Seal}
 use Rattle.codec_cursor.specs.Readers.{readPrefix, times}
 use Rattle.events_tel.specs.declared.tel.Listed.{Listed}
 use Rattle.events_tel.specs.declared.tel.Kind.{Kind}
 use Rattle.events_tel.specs.declared.tel.Kind.the-variants.{Vcp, Vrt, Iss, Rev, Bis, Brv}
+use Rattle.events_tel.specs.declared.tel.TelEvent.{TelEvent}
 
 -- the number of a kind
 abbrev pub kindNumber : Kind → ℕ
@@ -52,3 +55,16 @@ pub data Event : Type 0 where
 -- the prefixes of a list that stays in the bytes: at most 16, whatever its count says
 unfoldable pub membersIn : List ℕ → Listed → List BasicPrefix
 membersIn s l = times (min (l .count) 16) readPrefix s (l .start) .value
+
+-- what a struct of a kind stands for, over the bytes that it was read from: a digest, a prefix or a list is what stands at its place
+abbrev pub eventAs : List ℕ → Kind → TelEvent → Event
+eventAs s Vcp e = vcp (saidAt s (e .said)) (readMatter s (e .issuer)) (e .toad .0) (viewConfigs (e .configs)) (membersIn s (e .backers))
+eventAs s Vrt e =
+    vrt (saidAt s (e .said)) (saidAt s (e .registry)) (saidAt s (e .prior)) (e .sn) (e .toad .0) (membersIn s (e .backers)) (membersIn s (e .additions))
+eventAs s Iss e = iss (saidAt s (e .said)) (saidAt s (e .credential)) (saidAt s (e .registry))
+eventAs s Rev e = rev (saidAt s (e .said)) (saidAt s (e .credential)) (saidAt s (e .registry)) (saidAt s (e .prior))
+eventAs s Bis e = bis (saidAt s (e .said)) (saidAt s (e .credential)) (saidAt s (e .registry)) (e .seal)
+eventAs s Brv e = brv (saidAt s (e .said)) (saidAt s (e .credential)) (saidAt s (e .prior)) (e .seal)
+
+abbrev pub viewEvent : List ℕ → TelEvent → Event
+viewEvent s e = eventAs s (e .kind) e

@@ -2,6 +2,7 @@
 use crate::config::Configs;
 use cesr::number::Sn;
 use codec_cursor::cursor::Cursor;
+use events::seal::Seal;
 use events_toad::toad::Toad;
 ghost use mathlib.Core.Path.{_≡_};
 ghost use Rattle.events_tel.specs.TelEvents.{kindNumber, snOfKind};
@@ -21,7 +22,7 @@ pub struct Listed {
     pub start: Cursor,
 }
 
-// An event of any kind, flat: a field that the kind has no use for is blank. Digests, prefixes, lists and the seal stay in the bytes, and the event says where each stands, since they would be copied with it at every call.
+// An event of any kind, flat: a field that the kind has no use for is blank. Digests, prefixes and lists stay in the bytes, and the event says where each stands, since they would be copied with it at every call.
 pub struct TelEvent {
     pub kind: Kind,
     pub said: usize,
@@ -38,7 +39,7 @@ pub struct TelEvent {
     pub backers: Listed,
     pub additions: Listed,
     // The seal that a bis or brv carries itself.
-    pub seal: Cursor,
+    pub seal: Seal,
 }
 
 impl Kind {

@@ -2,7 +2,6 @@
 use crate::call::Named;
 use cesr::primitive::Matter;
 use cesr::primitive::Said;
-use codec::section::read_seal;
 use codec_cursor::cursor::Cursor;
 use codec_tel::tel::read_event;
 use events::identifier::Identifier;
@@ -12,7 +11,7 @@ use events_tel::tel::TelEvent;
 use registry_wire::attempt::Attempt;
 ghost use mathlib.Core.Path.{_≡_};
 ghost use mathlib.Core.List.{[]};
-ghost use Rattle.codec_tel.specs.EventReads.{viewEvent};
+ghost use Rattle.events_tel.specs.TelEvents.{viewEvent};
 ghost use Rattle.registry_laws.specs.Pairs.{pairUnder, pairIn};
 ghost use Rattle.ledger_asked.specs.Names.{about, namedPair, namedEvent, headNamed, decodes};
 
@@ -78,6 +77,7 @@ fn named_event(e: TelEvent, s: &[u8]) -> Named
     let said = Said::read(s, e.said);
     let registry = Said::read(s, e.registry);
     let credential = Said::read(s, e.credential);
+    let seal = e.seal;
     let kind = e.kind;
     match kind {
         Kind::Vcp => about(1, said, none),
@@ -85,11 +85,7 @@ fn named_event(e: TelEvent, s: &[u8]) -> Named
         Kind::Iss => about(3, registry, credential),
         Kind::Rev => about(4, registry, credential),
         Kind::Bis => about(3, registry, credential),
-        Kind::Brv => {
-            let own = read_seal(e.seal, s);
-            let seal = own.value;
-            named_in(seal, credential)
-        }
+        Kind::Brv => named_in(seal, credential),
     }
 }
 

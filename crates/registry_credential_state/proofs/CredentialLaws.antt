@@ -7,7 +7,7 @@ use mathlib.Core.Path.{_≡_, refl}
 use mathlib.Core.List.{List}
 use mathlib.Core.Bool.{true, false, cond, _&&_}
 use Rattle.cesr.specs.Primitives.{saidAt}
-use Rattle.codec_tel.specs.EventReads.{eventAs}
+use Rattle.events_tel.specs.TelEvents.{eventAs}
 use Rattle.events_tel.specs.declared.tel.Kind.{Kind}
 use Rattle.events_tel.specs.declared.tel.Kind.the-variants.{Vcp, Vrt, Iss, Rev, Bis, Brv}
 use Rattle.events_tel.specs.declared.tel.TelEvent.{TelEvent}

@@ -1,7 +1,6 @@
 // The fold of a credential's next event, its revocation (docs/RULES.md, "Orders", "Next states").
 use cesr::number::Sn;
 use cesr::primitive::Said;
-use codec::section::read_seal;
 use events_tel::tel::Kind;
 use registry_answer::answer::accept_if;
 use registry_answer::answer::accepts;
@@ -21,7 +20,7 @@ use registry_transition::transition::transition;
 use registry_wire::attempt::Attempt;
 ghost use mathlib.Core.Path.{_≡_};
 ghost use Rattle.cesr.specs.Primitives.{saidAt};
-ghost use Rattle.codec_tel.specs.EventReads.{sealAt, viewEvent};
+ghost use Rattle.events_tel.specs.TelEvents.{viewEvent};
 ghost use Rattle.registry_state.specs.States.{viewRegistry};
 ghost use Rattle.registry_wire.specs.Attempts.{viewAttempt};
 ghost use Rattle.registry_authentication.specs.Issuers.{Anchored};
@@ -53,13 +52,13 @@ fn rev_answer(g: RegistryState, w: CredentialState, a: Attempt, s: &[u8]) -> Ans
 // A brv's checks behind its kind.
 fn brv_answer(g: RegistryState, w: CredentialState, a: Attempt, s: &[u8]) -> Answer
     requires { ⌜ Anchored (now s) a ⌝ }
-    ensures { λ r. ⌜ r ≡ brvAnswer (viewRegistry g) w (saidAt (now (s .entry)) (a .event .said)) (saidAt (now (s .entry)) (a .event .credential)) (saidAt (now (s .entry)) (a .event .prior)) (sealAt (now (s .entry)) (a .event .seal)) (viewAttempt (now (s .entry)) a) ⌝ }
+    ensures { λ r. ⌜ r ≡ brvAnswer (viewRegistry g) w (saidAt (now (s .entry)) (a .event .said)) (saidAt (now (s .entry)) (a .event .credential)) (saidAt (now (s .entry)) (a .event .prior)) (a .event .seal) (viewAttempt (now (s .entry)) a) ⌝ }
 {
     let one = Sn { hi: 0, lo: 1 };
     let credential = Said::read(s, a.event.credential);
     let prior = Said::read(s, a.event.prior);
-    let own = read_seal(a.event.seal, s);
-    let seal = own.value;
+    let e = a.event;
+    let seal = e.seal;
     let routed = accept_if(
         names_registry(seal, g.id),
         RegistryRejection::InconsistentRegistry,

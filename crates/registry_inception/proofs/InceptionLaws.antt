@@ -8,8 +8,7 @@ use mathlib.Core.Bool.{true, false, _&&_, false≢true}
 use lib.Dec.{leb}
 use lib.ListN.{length}
 use Rattle.laws.proofs.Tests.{and-left}
-use Rattle.events_tel.specs.TelEvents.{Event}
-use Rattle.codec_tel.specs.EventReads.{eventAs}
+use Rattle.events_tel.specs.TelEvents.{Event, eventAs}
 use Rattle.events_tel.specs.TelEvents.Event.{vcp, vrt, iss, rev, bis, brv}
 use Rattle.events_tel.specs.declared.tel.Kind.{Kind}
 use Rattle.events_tel.specs.declared.tel.Kind.the-variants.{Vcp, Vrt, Iss, Rev, Bis, Brv}

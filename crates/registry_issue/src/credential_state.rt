@@ -1,7 +1,6 @@
 // The fold of a credential's first event, its issue (docs/RULES.md, "Orders", "Next states").
 use cesr::number::Sn;
 use cesr::primitive::Said;
-use codec::section::read_seal;
 use events_tel::tel::Kind;
 use events_tel::tel::TelEvent;
 use registry_answer::answer::accept_if;
@@ -18,7 +17,7 @@ use registry_state::state::RegistryState;
 use registry_wire::attempt::Attempt;
 ghost use mathlib.Core.Path.{_≡_};
 ghost use Rattle.cesr.specs.Primitives.{saidAt};
-ghost use Rattle.codec_tel.specs.EventReads.{sealAt, viewEvent};
+ghost use Rattle.events_tel.specs.TelEvents.{viewEvent};
 ghost use Rattle.registry_state.specs.States.{viewRegistry};
 ghost use Rattle.registry_wire.specs.Attempts.{viewAttempt};
 ghost use Rattle.registry_error.specs.declared.error.Answer.the-variants.{Rejected};
@@ -51,13 +50,13 @@ fn iss_answer(g: RegistryState, a: Attempt, s: &[u8]) -> Answer
 // A bis's checks behind its kind.
 fn bis_answer(g: RegistryState, a: Attempt, s: &[u8]) -> Answer
     requires { ⌜ Anchored (now s) a ⌝ }
-    ensures { λ r. ⌜ r ≡ bisAnswer (viewRegistry g) (saidAt (now (s .entry)) (a .event .said)) (saidAt (now (s .entry)) (a .event .credential)) (saidAt (now (s .entry)) (a .event .registry)) (sealAt (now (s .entry)) (a .event .seal)) (viewAttempt (now (s .entry)) a) ⌝ }
+    ensures { λ r. ⌜ r ≡ bisAnswer (viewRegistry g) (saidAt (now (s .entry)) (a .event .said)) (saidAt (now (s .entry)) (a .event .credential)) (saidAt (now (s .entry)) (a .event .registry)) (a .event .seal) (viewAttempt (now (s .entry)) a) ⌝ }
 {
     let zero = Sn { hi: 0, lo: 0 };
     let registry = Said::read(s, a.event.registry);
     let credential = Said::read(s, a.event.credential);
-    let own = read_seal(a.event.seal, s);
-    let seal = own.value;
+    let e = a.event;
+    let seal = e.seal;
     let routed = accept_if(registry.same(g.id), RegistryRejection::InconsistentRegistry);
     let flavor = accept_if(
         !is_backerless(g),

@@ -10,12 +10,11 @@ use Rattle.cesr.specs.Primitives.{matterBytes, readMatter}
 use Rattle.cesr.specs.declared.number.Sn.{Sn}
 use Rattle.cesr.specs.declared.primitive.Matter.{Matter}
 use Rattle.cesr.specs.declared.primitive.Said.{Said}
-use Rattle.events_tel.specs.TelEvents.{Event}
+use Rattle.events_tel.specs.TelEvents.{Event, viewEvent}
 use Rattle.events.specs.declared.seal.Seal.{Seal}
 use Rattle.codec_cursor.specs.declared.cursor.Cursor.{Cursor}
 use Rattle.codec_cursor.specs.Readers.{Read, Reader, placed, starting, need, readByte, readNumber, readIdentifier, readSaid, mapped, both, after, countUpTo, section}
 use Rattle.codec.specs.Events.{readSeal, readEvent}
-use Rattle.codec_tel.specs.EventReads.{viewEvent}
 use Rattle.codec.specs.Layout.{joined, sectionBytes, all, saidBytes, sealBytes, eventBytes, goodSaid, goodIdentifier, goodSn, goodSeal, goodEvent}
 use Rattle.registry_state.specs.States.{Registry, registryBytes, goodRegistry, readRegistry}
 use Rattle.registry_signatures.specs.SignatureSections.{Signature, signatureBytes, goodSignature, readSignature, signaturesIn}

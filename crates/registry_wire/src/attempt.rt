@@ -26,7 +26,7 @@ pub struct Part {
     pub to: usize,
 }
 
-// All but numbers stays in the bytes, and the attempt says where it stands.
+// All but numbers and the event's own seal stays in the bytes, and the attempt says where it stands.
 pub struct Attempt {
     pub event: TelEvent,
     // 0 or 1, and where the source stands where it is 1.

@@ -22,8 +22,8 @@ pass-empty-requires c κs = search needs
 count-requires-2 : tie.Need-count-requires-2
 count-requires-2 c κs = search needs
 
-pass-seal-requires : tie.Need-pass-seal-requires
-pass-seal-requires c κs = search needs
+read-seal-requires : tie.Need-read-seal-requires
+read-seal-requires c κs = search needs
 
 of-credential-requires : tie.Need-of-credential-requires
 of-credential-requires c κs = search needs
@@ -31,22 +31,22 @@ of-credential-requires c κs = search needs
 returns : tie.Need-returns
 unfolding readBis readSaid readIf
 returns c =
-    let b1 = c .before in
-    let b2 = b1 .before in
+    let b2 = c .before .before in
     let b3 = b2 .before in
     let b4 = b3 .before in
     let b5 = b4 .before in
     let b6 = b5 .before in
     let b7 = b6 .before in
+    let b8 = b7 .before in
     let e = c .of-credential .ensures in
     rw (
-      ← b7 .count .ensures,
-      ← b6 .pass-said .ensures,
-      ← b5 .pass-said2 .ensures,
-      ← b4 .pass-said3 .ensures,
-      ← b3 .pass-empty .ensures,
-      ← b2 .count2 .ensures,
-      ← b1 .pass-seal .ensures,
+      ← b8 .count .ensures,
+      ← b7 .pass-said .ensures,
+      ← b6 .pass-said2 .ensures,
+      ← b5 .pass-said3 .ensures,
+      ← b4 .pass-empty .ensures,
+      ← b3 .count2 .ensures,
+      ← b2 .read-seal .ensures,
       e .0,
       e .1,
       e .2,
@@ -64,6 +64,6 @@ read-bis-spec =
     pass-said-requires-3
     pass-empty-requires
     count-requires-2
-    pass-seal-requires
+    read-seal-requires
     of-credential-requires
     returns)

@@ -1,6 +1,3 @@
-use mathlib.Core.Path.{ap}
-use Rattle.codec_cursor.specs.Readers.{Read}
-use Rattle.events.specs.declared.seal.Seal.{Seal}
 use borrow.Author.Needs.{needs}
 use Rattle.ledger_asked.proofs.asked.named_event.Statement.{statement}
 use Rattle.ledger_asked.proofs.asked.named_event.Tie as tie
@@ -50,9 +47,6 @@ about-requires-5 c κs = search needs
 enum-told-6 : tie.Need-enum-told-6
 enum-told-6 c = search needs
 
-read-seal-requires : tie.Need-read-seal-requires
-read-seal-requires c κs = search needs
-
 named-in-requires : tie.Need-named-in-requires
 named-in-requires c κs = search needs
 
@@ -83,13 +77,8 @@ returns-5 c =
 
 returns-6 : tie.Need-returns-6
 returns-6 c =
-    let b = c .before .before in
-    rw (
-      b .enum-told6 .given .1,
-      c .named-in .ensures,
-      ap (λ (r : Read Seal). r .value) (c .before .read-seal .ensures),
-      b .before .before .read3 .ensures,
-    )
+    let b = c .before .before .before in
+    rw (c .before .enum-told6 .given .1, c .named-in .ensures, b .read3 .ensures)
 
 pub named-event-spec : {M : Type 1} → statement M
 named-event-spec =
@@ -110,7 +99,6 @@ named-event-spec =
     enum-told-5
     about-requires-5
     enum-told-6
-    read-seal-requires
     named-in-requires
     returns
     returns-2

@@ -4,8 +4,7 @@ use mathlib.Core.Bool.{true}
 use Rattle.cesr.specs.Primitives.{saidAt}
 use Rattle.events.specs.Members.{view}
 use Rattle.events_tel.specs.declared.tel.Kind.{Kind}
-use Rattle.events_tel.specs.TelEvents.{membersIn}
-use Rattle.codec_tel.specs.EventReads.{eventAs}
+use Rattle.events_tel.specs.TelEvents.{membersIn, eventAs}
 use Rattle.registry_state.specs.States.{viewRegistry}
 use Rattle.registry_wire.specs.Attempts.{viewAttempt}
 use Rattle.registry_answer.specs.Answers.{accepts}

@@ -1,9 +1,6 @@
 use denote.Ref.{now}
-use mathlib.Core.Path.{ap}
 use native.Mathlib.Omega.{arith}
 use Rattle.cesr.specs.Primitives.{readMatter, saidAt}
-use Rattle.codec_cursor.specs.Readers.{Read}
-use Rattle.events.specs.declared.seal.Seal.{Seal}
 use Rattle.registry_authentication.proofs.AnchorUse.{message-in}
 use Rattle.events_tel.specs.TelEvents.{snOne}
 use Rattle.registry_credential_state.specs.CredentialFolds.{brvAnswer}
@@ -19,9 +16,6 @@ read-requires c κs = search needs
 
 read-requires-2 : tie.Need-read-requires-2
 read-requires-2 c κs = search needs
-
-read-seal-requires : tie.Need-read-seal-requires
-read-seal-requires c κs = search needs
 
 names-registry-requires : tie.Need-names-registry-requires
 names-registry-requires c κs = search needs
@@ -86,7 +80,6 @@ returns c =
       b9 .is-backerless .ensures,
       b9 .before .accept-if .ensures,
       b9 .before .before .names-registry .ensures,
-      ap (λ (r : Read Seal). r .value) (b12 .read-seal .ensures),
     )
 
 pub brv-answer-spec : {M : Type 1} → statement M
@@ -95,7 +88,6 @@ brv-answer-spec =
     (tie.spec
     read-requires
     read-requires-2
-    read-seal-requires
     names-registry-requires
     accept-if-requires
     is-backerless-requires

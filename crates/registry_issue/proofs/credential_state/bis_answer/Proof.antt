@@ -1,6 +1,3 @@
-use mathlib.Core.Path.{ap}
-use Rattle.codec_cursor.specs.Readers.{Read}
-use Rattle.events.specs.declared.seal.Seal.{Seal}
 use denote.Ref.{now}
 use native.Mathlib.Omega.{arith}
 use Rattle.cesr.specs.Primitives.{readMatter, saidAt}
@@ -17,9 +14,6 @@ read-requires c κs = search needs
 
 read-requires-2 : tie.Need-read-requires-2
 read-requires-2 c κs = search needs
-
-read-seal-requires : tie.Need-read-seal-requires
-read-seal-requires c κs = search needs
 
 same-requires : tie.Need-same-requires
 same-requires c κs = search needs
@@ -67,7 +61,6 @@ returns c =
       c .before .before .or-else2 .ensures,
       c .before .before .before .or-else .ensures,
       b4 .authenticate-backer .ensures (readMatter s (y .issuer)) (y .carried),
-      ap (λ (r : Read Seal). r .value) (b10 .read-seal .ensures),
       b4 .before .message-anchored .ensures,
       b10 .before .read2 .ensures,
       message-in s y (q .g .issuer) (saidAt s (y .event .credential)) snZero (saidAt s (y .event .said)) (λ i. omega (arith, b10 .before .before .before .shared-slice-known .given i)) (start .pre),
@@ -84,7 +77,6 @@ bis-answer-spec =
     (tie.spec
     read-requires
     read-requires-2
-    read-seal-requires
     same-requires
     accept-if-requires
     is-backerless-requires

@@ -1,5 +1,5 @@
 use Rattle.events_tel.specs.declared.tel.Kind.{Kind}
-use Rattle.codec_tel.specs.EventReads.{eventAs}
+use Rattle.events_tel.specs.TelEvents.{eventAs}
 use Rattle.registry_wire.specs.Attempts.{viewAttempt}
 use denote.Ref.{now}
 use mathlib.Core.Path.{sym, ap}
