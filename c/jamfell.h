@@ -41,9 +41,9 @@ extern "C" {
 
 /*
  * A ledger. Every pattern of bits in it is one that gets an answer, and one whose bytes are all 0 is empty. A host reads the two
- * counts and leaves the rest to the calls: the states are laid out as the library likes. Some bytes between their fields mean
- * nothing, and an accepted attempt leaves anything there, remains of the stack too. So a ledger is kept, sent and compared as its
- * image, never as its block.
+ * counts and leaves the rest to the calls: the states are laid out as the library likes. Four bytes of each registry mean nothing,
+ * and an accepted attempt leaves anything there, remains of the stack too. So a ledger is kept, sent and compared as its image,
+ * never as its block.
  */
 typedef struct jamfell_ledger {
     uint64_t registries[JAMFELL_REGISTRIES_MAX][101];

@@ -10,8 +10,8 @@ pub const LEDGER_BYTES: usize = 47_760;
 pub const REPORT_BYTES: usize = 36;
 
 /// A ledger as the library has it. Every pattern of bits in it is one that gets an answer, and one whose bytes are all 0 is empty.
-/// The counts can be read. The states are laid out as the library likes, with bytes between their fields that mean nothing and hold
-/// anything, so a ledger is kept, sent and compared as its image, never as its block.
+/// The counts can be read. The states are laid out as the library likes. Four bytes of each registry mean nothing and hold anything, so
+/// a ledger is kept, sent and compared as its image, never as its block.
 #[repr(C)]
 #[derive(Clone)]
 pub struct Ledger {
