@@ -1,3 +1,2 @@
 pub mod Words
 pub mod Matters
-pub mod Round

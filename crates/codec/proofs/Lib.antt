@@ -1,8 +1,1 @@
 pub mod Loops
-pub mod Stands
-pub mod Codes
-pub mod CodesList
-pub mod CodesSeal
-pub mod CodesEvent
-pub mod CodesRound
-pub mod CodesPlain

@@ -9,18 +9,17 @@ use Rattle.cesr.specs.declared.primitive.Matter.{Matter}
 use Rattle.cesr.specs.declared.primitive.Said.{Said}
 use Rattle.cesr.specs.declared.primitive.BasicPrefix.{BasicPrefix}
 use Rattle.events_tel.specs.Configs.{viewConfigs}
-use Rattle.events.specs.Identifiers.{identifierOf}
+use Rattle.events_seal.specs.Identifiers.{identifierOf}
 use Rattle.events.specs.Members.{view}
 use Rattle.events_tel.specs.TelEvents.{Event, membersIn}
 use Rattle.events_tel.specs.TelEvents.Event.{vcp, vrt, iss, rev, bis, brv}
-use Rattle.events.specs.declared.seal.Seal.{Seal}
-use Rattle.events.specs.declared.seal.Seal.the-variants.{Digest, Root, Source, Event as EventSeal, Last, Back, Kind, Opaque}
+use Rattle.events_seal.specs.declared.seal.Seal.{Seal}
+use Rattle.events_seal.specs.declared.seal.Seal.the-variants.{Digest, Root, Source, Event as EventSeal, Last, Back, Kind, Opaque}
 use Rattle.codec.specs.declared.section.CountRead.{CountRead}
 use Rattle.codec.specs.declared.section.ConfigsRead.{ConfigsRead}
 use Rattle.codec.specs.declared.section.PrefixesRead.{PrefixesRead}
 use Rattle.codec.specs.declared.section.ListedRead.{ListedRead}
 use Rattle.codec.specs.declared.section.ToadRead.{ToadRead}
-use Rattle.codec.specs.declared.section.SealRead.{SealRead}
 use Rattle.codec_cursor.specs.Readers.{Read, Reader, need, readByte, readByteIf, readNumber, readIdentifier, readSaid, readPrefix, mapped, both, after, ended, section}
 
 -- a config byte is 1 to 6
@@ -137,6 +136,3 @@ viewListedRead s r = record { value = membersIn s (r .value); next = r .next }
 
 abbrev pub viewToadRead : ToadRead → Read ℕ
 viewToadRead r = record { value = r .value .0; next = r .next }
-
-abbrev pub viewSealRead : SealRead → Read Seal
-viewSealRead r = record { value = r .value; next = r .next }

@@ -2,10 +2,10 @@
 use cesr::number::Sn;
 use codec::section::pass_prefixes;
 use codec::section::read_configs;
-use codec::section::read_seal;
 use codec::section::read_toad;
 use codec_cursor::cursor::Cursor;
-use events::seal::Seal;
+use codec_seal::seal::read_seal;
+use events_seal::seal::Seal;
 use events_tel::config::Configs;
 use events_tel::tel::Kind;
 use events_tel::tel::Listed;

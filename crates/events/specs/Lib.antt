@@ -1,3 +1,1 @@
-pub mod Identifiers
 pub mod Members
-pub mod Seals

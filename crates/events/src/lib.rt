@@ -1,4 +1,2 @@
-// What events are made of: thresholds, lists of backers, identifiers and seals.
-pub mod identifier;
+// Lists of backers, and the rules on them (docs/RULES.md, "Lists of backers").
 pub mod member_set;
-pub mod seal;

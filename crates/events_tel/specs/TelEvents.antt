@@ -7,7 +7,7 @@ use Rattle.cesr.specs.declared.primitive.Matter.{Matter}
 use Rattle.cesr.specs.declared.primitive.Said.{Said}
 use Rattle.cesr.specs.declared.primitive.BasicPrefix.{BasicPrefix}
 use Rattle.events_tel.specs.Configs.{viewConfigs}
-use Rattle.events.specs.declared.seal.Seal.{Seal}
+use Rattle.events_seal.specs.declared.seal.Seal.{Seal}
 use Rattle.codec_cursor.specs.Readers.{readPrefix, times}
 use Rattle.events_tel.specs.declared.tel.Listed.{Listed}
 use Rattle.events_tel.specs.declared.tel.Kind.{Kind}

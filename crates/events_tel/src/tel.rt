@@ -2,7 +2,7 @@
 use crate::config::Configs;
 use cesr::number::Sn;
 use codec_cursor::cursor::Cursor;
-use events::seal::Seal;
+use events_seal::seal::Seal;
 use events_toad::toad::Toad;
 ghost use mathlib.Core.Path.{_≡_};
 ghost use Rattle.events_tel.specs.TelEvents.{kindNumber, snOfKind};

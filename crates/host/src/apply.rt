@@ -8,7 +8,8 @@ ghost use Rattle.registry_answer.specs.Answers.{accepts};
 ghost use Rattle.registry_error.specs.Errors.{answerNumber};
 ghost use Rattle.ledger_step.specs.Steps.{requestOf, effect, stepOf};
 ghost use Rattle.ledger_apply.specs.Applies.{Stores};
-ghost use Rattle.ledger_table.specs.Tables.{viewLedger, lentOf};
+ghost use Rattle.ledger_table.specs.Tables.{viewLedger};
+ghost use Rattle.ledger_laws.specs.LentTables.{lentOf};
 ghost use Rattle.host_report.specs.Reports.{answerReport};
 
 // After a refusal the block is as it was, whatever stands in it.

@@ -15,8 +15,8 @@ use Rattle.laws.specs.Number.{Bytes}
 use Rattle.laws.proofs.Tests.{and-left}
 use Rattle.codec_cursor.specs.declared.cursor.Cursor.{Cursor}
 use Rattle.codec_cursor.specs.Readers.{Reader, starting}
-use Rattle.codec.proofs.Codes.{Codes}
-use Rattle.codec.proofs.CodesRound.{whole-sound, whole-complete}
+use Rattle.codec_laws.proofs.Codes.{Codes}
+use Rattle.codec_laws.proofs.CodesRound.{whole-sound, whole-complete}
 use Rattle.registry_state.specs.States.{Registry, viewRegistry, registryBytes, goodRegistry, readRegistry, viewRegistryRead, wellRegistry}
 use Rattle.registry_state.specs.declared.state.RegistryRead.{RegistryRead}
 use Rattle.registry_state.proofs.CodesState.{codes-registry}

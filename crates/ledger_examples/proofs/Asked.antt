@@ -8,7 +8,7 @@ use mathlib.Core.List.{List, [], _∷_, map}
 use Rattle.registry_wire.specs.Attempts.{Message, attemptBytes, goodMessage, decodeOf}
 use Rattle.registry_wire.specs.Attempts.Decoded.{decoded}
 use Rattle.registry_wire.proofs.CodesAttempt.{codes-message}
-use Rattle.codec.proofs.CodesRound.{whole-complete}
+use Rattle.codec_laws.proofs.CodesRound.{whole-complete}
 use Rattle.registry_error.specs.Errors.{answerNumber}
 use Rattle.ledger_step.specs.Ledgers.{Ledger}
 use Rattle.ledger_step.specs.Steps.{Request, eventRequest, requestOf, effect, answerOf, changed, stepOf}

@@ -9,8 +9,8 @@ use Rattle.cesr.specs.declared.primitive.Said.{Said}
 use Rattle.cesr.specs.declared.primitive.BasicPrefix.{BasicPrefix}
 use Rattle.events_tel.specs.TelEvents.{Event, snZero, snOne}
 use Rattle.events_tel.specs.TelEvents.Event.{vcp, vrt, iss, rev, bis}
-use Rattle.events.specs.declared.identifier.Identifier.the-variants.{SelfAddressing}
-use Rattle.events.specs.declared.seal.Seal.the-variants.{Event as EventSeal}
+use Rattle.events_seal.specs.declared.identifier.Identifier.the-variants.{SelfAddressing}
+use Rattle.events_seal.specs.declared.seal.Seal.the-variants.{Event as EventSeal}
 use Rattle.registry_state.specs.States.{Registry}
 use Rattle.registry_state.specs.declared.state.CredentialState.{CredentialState}
 use Rattle.registry_wire.specs.Attempts.{Evidence, Message}

@@ -13,8 +13,8 @@ use lib.ListN.{length}
 use Rattle.laws.specs.Number.{Bytes}
 use Rattle.laws.proofs.Tests.{and-left, and-right}
 use Rattle.codec_cursor.specs.Readers.{starting}
-use Rattle.codec.proofs.Codes.{Codes, codes-both}
-use Rattle.codec.proofs.CodesRound.{whole-sound, whole-complete}
+use Rattle.codec_laws.proofs.Codes.{Codes, codes-both}
+use Rattle.codec_laws.proofs.CodesRound.{whole-sound, whole-complete}
 use Rattle.registry_state.specs.States.{Registry, registryBytes, credentialBytes, goodRegistry, goodCredential, readRegistry, readCredential}
 use Rattle.registry_state.specs.declared.state.CredentialState.{CredentialState}
 use Rattle.registry_state.proofs.CodesState.{codes-registry, codes-credential}

@@ -16,9 +16,9 @@ use Rattle.laws.proofs.Tests.{and-left, and-right}
 use Rattle.codec_cursor.specs.declared.cursor.Cursor.{Cursor}
 use Rattle.codec_cursor.specs.Readers.{placed, Reader, advanced, times}
 use Rattle.codec.specs.Layout.{joined, all}
-use Rattle.codec.proofs.Stands.{Stands, stands-join, stands-first, stands-rest, passed, stays}
-use Rattle.codec.proofs.Codes.{Codes, and-true, codes-like, codes-number}
-use Rattle.codec.proofs.CodesList.{codes-times}
+use Rattle.codec_laws.proofs.Stands.{Stands, stands-join, stands-first, stands-rest, passed, stays}
+use Rattle.codec_laws.proofs.Codes.{Codes, and-true, codes-like, codes-number}
+use Rattle.codec_laws.proofs.CodesList.{codes-times}
 use Rattle.ledger_image.specs.Images.{wideBytes, followed, wideCount, wideSection}
 
 -- The second reader's limits tell the value of the first.

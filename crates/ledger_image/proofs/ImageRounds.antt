@@ -13,7 +13,7 @@ use lib.ListN.{length, length-map}
 use Rattle.laws.specs.Number.{Bytes}
 use Rattle.laws.proofs.Tests.{and-left, and-right}
 use Rattle.codec.specs.Layout.{all}
-use Rattle.codec.proofs.Codes.{and-true}
+use Rattle.codec_laws.proofs.Codes.{and-true}
 use Rattle.registry_state.specs.States.{Registry, goodRegistry, goodCredential, viewRegistry, wellRegistry, wellCredential, rangedRegistry, rangedCredential}
 use Rattle.registry_state.specs.declared.state.RegistryState.{RegistryState}
 use Rattle.registry_state.specs.declared.state.CredentialState.{CredentialState}

@@ -17,7 +17,7 @@ use Rattle.cesr.specs.declared.primitive.Said.{Said}
 use Rattle.codec_cursor.specs.declared.cursor.Cursor.{Cursor}
 use Rattle.codec_cursor.specs.Readers.{Read, starting, placed, times}
 use Rattle.codec.specs.Layout.{all}
-use Rattle.codec.proofs.Codes.{and-true}
+use Rattle.codec_laws.proofs.Codes.{and-true}
 use Rattle.registry_state.specs.States.{Registry, readRegistry, readCredential, wellCredential}
 use Rattle.registry_state.specs.declared.state.CredentialState.{CredentialState}
 use Rattle.registry_laws.specs.Pairs.{keyOf}

@@ -15,7 +15,7 @@ use lib.ListN.{length, length-append}
 use Rattle.laws.specs.Number.{numberAt}
 use Rattle.codec_cursor.specs.declared.cursor.Cursor.{Cursor}
 use Rattle.codec_cursor.specs.Readers.{Read, Reader, placed, advanced, need, times}
-use Rattle.codec.proofs.Stands.{passed, went}
+use Rattle.codec_laws.proofs.Stands.{passed, went}
 use Rattle.ledger_image.specs.Images.{wideCount, wideSection}
 
 pub record Counted (limit : ℕ) (s : List ℕ) (c : Cursor) : Type 0 where

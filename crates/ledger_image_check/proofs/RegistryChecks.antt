@@ -13,7 +13,7 @@ use Rattle.cesr.specs.declared.primitive.Said.{Said}
 use Rattle.codec_cursor.specs.declared.cursor.Cursor.{Cursor}
 use Rattle.codec_cursor.specs.Readers.{Read, starting, times}
 use Rattle.codec.specs.Layout.{all}
-use Rattle.codec.proofs.CodesList.{all-snoc}
+use Rattle.codec_laws.proofs.CodesList.{all-snoc}
 use Rattle.registry_state.specs.States.{Registry, viewRegistry, readRegistry, wellRegistry}
 use Rattle.registry_state.specs.declared.state.RegistryState.{RegistryState}
 use Rattle.registry_laws.specs.ReadingRules.{soundRegistry}

@@ -23,9 +23,9 @@ use Rattle.cesr.specs.declared.primitive.Said.{Said}
 use Rattle.codec_cursor.specs.declared.cursor.Cursor.{Cursor}
 use Rattle.codec_cursor.specs.Readers.{Read, placed, advanced, saidOf, readIf, readSaid, readNumber, times}
 use Rattle.codec.specs.Layout.{all}
-use Rattle.codec.proofs.Stands.{went, passed}
-use Rattle.codec.proofs.Codes.{and-true}
-use Rattle.codec.proofs.CodesList.{all-snoc}
+use Rattle.codec_laws.proofs.Stands.{went, passed}
+use Rattle.codec_laws.proofs.Codes.{and-true}
+use Rattle.codec_laws.proofs.CodesList.{all-snoc}
 use Rattle.registry_state.specs.States.{readCredential, wellCredential}
 use Rattle.registry_state.specs.declared.state.CredentialState.{CredentialState}
 use Rattle.registry_laws.specs.Pairs.{Pair, keyOf}

@@ -18,9 +18,9 @@ use Rattle.codec_cursor.specs.Readers.{Reader, starting, placed, advanced, read
 use Rattle.codec_cursor.specs.declared.cursor.Cursor.{Cursor}
 use Rattle.codec.specs.Events.{isConfig, readConfig, readConfigs, readPrefixes}
 use Rattle.codec.specs.Layout.{all}
-use Rattle.codec.proofs.Stands.{went, passed}
-use Rattle.codec.proofs.Codes.{and-true}
-use Rattle.codec.proofs.CodesList.{all-snoc}
+use Rattle.codec_laws.proofs.Stands.{went, passed}
+use Rattle.codec_laws.proofs.Codes.{and-true}
+use Rattle.codec_laws.proofs.CodesList.{all-snoc}
 use Rattle.registry_state.specs.States.{Registry, readRegistry, isBacker}
 use Rattle.registry_state.specs.declared.state.RegistryState.{RegistryState}
 use Rattle.ledger_step.specs.Ledgers.{heldOf}

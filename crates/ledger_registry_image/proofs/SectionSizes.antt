@@ -15,7 +15,7 @@ use Rattle.laws.proofs.Views.{take-counted}
 use Rattle.events.proofs.Members.{view-size as backers-size}
 use Rattle.events_tel.proofs.Configs.{view-size as configs-size}
 use Rattle.codec.specs.Layout.{joined}
-use Rattle.codec.proofs.CodesList.{joined-snoc}
+use Rattle.codec_laws.proofs.CodesList.{joined-snoc}
 use Rattle.registry_state.specs.States.{viewRegistry, registryBytes, noSaid, noSn}
 use Rattle.registry_state.specs.declared.state.RegistryState.{RegistryState}
 use Rattle.registry_state.proofs.StateLoops.{length-registry}

@@ -19,7 +19,7 @@ use Rattle.laws.proofs.Number.{length-digits}
 use Rattle.laws.proofs.Room.{sets-append, put-sets, put-none}
 use Rattle.laws.proofs.Tests.{and-left, and-right}
 use Rattle.codec.specs.Layout.{joined}
-use Rattle.codec.proofs.CodesList.{joined-snoc}
+use Rattle.codec_laws.proofs.CodesList.{joined-snoc}
 use Rattle.codec_cursor.specs.declared.cursor.Cursor.{Cursor}
 use Rattle.codec_cursor.specs.Readers.{Read, placed, times}
 use Rattle.registry_state.specs.States.{noCredential, credentialBytes, readCredential, viewCredentialRead}

@@ -15,7 +15,7 @@ use Rattle.cesr.specs.declared.primitive.Said.{Said}
 use Rattle.events_tel.specs.TelEvents.{Event}
 use Rattle.events_tel.specs.TelEvents.Event.{vcp, vrt, iss, rev, bis, brv}
 use Rattle.codec.specs.Layout.{all}
-use Rattle.codec.proofs.CodesList.{all-snoc}
+use Rattle.codec_laws.proofs.CodesList.{all-snoc}
 use Rattle.registry_state.specs.States.{Registry, wellCredential}
 use Rattle.registry_state.specs.declared.state.CredentialState.{CredentialState}
 use Rattle.registry_wire.specs.Attempts.{Message, Decoded, decodeOf}

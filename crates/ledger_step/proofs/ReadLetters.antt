@@ -17,7 +17,7 @@ use Rattle.events_tel.specs.TelEvents.Event.{vcp, vrt, iss, rev, bis, brv}
 use Rattle.codec_cursor.specs.declared.cursor.Cursor.{Cursor}
 use Rattle.codec_cursor.specs.Readers.{Read, Reader, starting, need, readByte, readQuad, readNumber, readIf, isIdentifier, readIdentifier, readSaid, saidOf, prefixOf, readPrefix, readByteIf, counted, mapped, both, after, ended, times, countUpTo, section}
 use Rattle.codec.specs.Events.{eventSeal, sealOf, vcpOf, vrtOf, issOf, revOf, bisOf, brvOf, readConfig, readToad, readEventSeal, readOtherSeal, readSeal, readConfigs, readPrefixes, readVcp, readVrt, readIss, readRev, readBis, readBrv, readKind, readEvent}
-use Rattle.codec.proofs.Stands.{went, passed}
+use Rattle.codec_laws.proofs.Stands.{went, passed}
 use Rattle.registry_state.specs.States.{registryOf, readRegistry}
 use Rattle.registry_signatures.specs.SignatureSections.{signatureOf, readSignature}
 use Rattle.registry_wire.specs.Attempts.{Message, decodeOf, sourceOf, anchorOf, issuerOf, messageOf, readSource, readSeals, readAnchor, readAnchors, readIssuer, readBackerAt, readEvidence, readMessage}

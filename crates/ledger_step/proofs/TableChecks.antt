@@ -16,7 +16,7 @@ use lib.ListN.{length, getD, take}
 use lib.Seq.{take-suc}
 use Rattle.laws.proofs.Tests.{and-left, and-right}
 use Rattle.codec.specs.Layout.{all}
-use Rattle.codec.proofs.CodesList.{all-snoc}
+use Rattle.codec_laws.proofs.CodesList.{all-snoc}
 use Rattle.ledger_step.specs.Tables.{distinct, place}
 use Rattle.ledger_step.specs.Ledgers.{holds}
 use Rattle.ledger_step.proofs.TableLaws.{Tests}

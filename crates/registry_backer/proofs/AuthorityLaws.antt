@@ -8,7 +8,7 @@ use mathlib.Core.Bool.{Bool, true, false}
 use borrow.Author.Tests.{ne-eqb}
 use lib.Dec.{eqb}
 use Rattle.cesr.specs.declared.primitive.Matter.{Matter}
-use Rattle.events.specs.declared.seal.Seal.{Seal}
+use Rattle.events_seal.specs.declared.seal.Seal.{Seal}
 use Rattle.registry_state.specs.States.{Registry}
 use Rattle.registry_signatures.specs.SignatureSections.{Signature}
 use Rattle.registry_wire.specs.Attempts.{evidenceOf}

@@ -10,12 +10,12 @@ use Rattle.cesr.specs.Primitives.{eqMatter, eqSaid}
 use Rattle.cesr.specs.declared.number.Sn.{Sn}
 use Rattle.cesr.specs.declared.primitive.Said.{Said}
 use Rattle.cesr.specs.declared.primitive.BasicPrefix.{BasicPrefix}
-use Rattle.events.specs.Identifiers.{matterOf}
+use Rattle.events_seal.specs.Identifiers.{matterOf}
 use Rattle.events.specs.Members.{checkMembers}
 use Rattle.events_toad.specs.Toads.{exactOk}
 use Rattle.events_tel.specs.Configs.{noBackers}
-use Rattle.events.specs.declared.seal.Seal.{Seal}
-use Rattle.events.specs.declared.seal.Seal.the-variants.{Digest, Root, Source, Event, Last, Back, Kind, Opaque}
+use Rattle.events_seal.specs.declared.seal.Seal.{Seal}
+use Rattle.events_seal.specs.declared.seal.Seal.the-variants.{Digest, Root, Source, Event, Last, Back, Kind, Opaque}
 use Rattle.registry_state.specs.States.{Registry}
 use Rattle.registry_signatures.specs.SignatureSections.{Signature}
 use Rattle.registry_wire.specs.Attempts.{Evidence}

@@ -4,7 +4,7 @@ use cesr::primitive::Said;
 use codec_cursor::cursor::Cursor;
 use events::member_set::MemberSet;
 use events::member_set::Members;
-use events::seal::Seal;
+use events_seal::seal::Seal;
 use events_toad::toad::Toad;
 use registry_answer::answer::accept_if;
 use registry_answer::answer::backer_set;

@@ -24,7 +24,7 @@ use Rattle.cesr.specs.Primitives.{matterBytes}
 use Rattle.cesr.proofs.Matters.{length-matter}
 use Rattle.events.specs.Members.{noPrefix, at}
 use Rattle.codec.specs.Layout.{joined, sectionBytes, byteBytes, prefixBytes}
-use Rattle.codec.proofs.CodesList.{joined-snoc}
+use Rattle.codec_laws.proofs.CodesList.{joined-snoc}
 use Rattle.registry_bytes.specs.StateBytes.{headBytes, restBytes, stateBytes}
 
 module _ {A : Type 0} (f : A → List ℕ) (k : ℕ) (each : (x : A) → length (f x) ≡ k) where

@@ -18,8 +18,8 @@ use Rattle.events_tel.specs.TelEvents.Event.{vcp, vrt, iss, rev, bis, brv}
 use Rattle.events.specs.declared.member_set.Rule.{Rule}
 use Rattle.events.specs.declared.member_set.Rule.the-variants.{DuplicateBacker, DuplicateCut, DuplicateAddition, CutAddOverlap, RemovalNotCurrent, AdditionAlreadyPresent}
 use Rattle.events.specs.declared.member_set.Membership.the-variants.{Broken}
-use Rattle.events.specs.declared.seal.Seal.{Seal}
-use Rattle.events.specs.declared.seal.Seal.the-variants.{Digest, Root, Source as SourceSeal, Event as EventSeal, Last, Back, Kind, Opaque}
+use Rattle.events_seal.specs.declared.seal.Seal.{Seal}
+use Rattle.events_seal.specs.declared.seal.Seal.the-variants.{Digest, Root, Source as SourceSeal, Event as EventSeal, Last, Back, Kind, Opaque}
 use Rattle.registry_state.specs.States.{Registry, viewRegistry, wellRegistry, wellCredential, noCredential}
 use Rattle.registry_state.specs.declared.state.RegistryState.{RegistryState}
 use Rattle.registry_state.specs.declared.state.CredentialState.{CredentialState}

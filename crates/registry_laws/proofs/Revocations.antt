@@ -17,13 +17,13 @@ use Rattle.cesr.specs.Primitives.{eqMatter, eqSaid, isBasic, isSaid}
 use Rattle.cesr.specs.declared.primitive.Matter.{Matter}
 use Rattle.cesr.specs.declared.primitive.Said.{Said}
 use Rattle.cesr.proofs.Matters.{matter-eq, said-eq}
-use Rattle.events.specs.Identifiers.{matterOf}
+use Rattle.events_seal.specs.Identifiers.{matterOf}
 use Rattle.events_tel.specs.TelEvents.{Event, snOne}
 use Rattle.events_tel.specs.TelEvents.Event.{vcp, vrt, iss, rev, bis, brv}
-use Rattle.events.specs.declared.identifier.Identifier.{Identifier}
-use Rattle.events.specs.declared.identifier.Identifier.the-variants.{Basic, SelfAddressing}
-use Rattle.events.specs.declared.seal.Seal.{Seal}
-use Rattle.events.specs.declared.seal.Seal.the-variants.{Digest, Root, Source, Event as EventSeal, Last, Back, Kind, Opaque}
+use Rattle.events_seal.specs.declared.identifier.Identifier.{Identifier}
+use Rattle.events_seal.specs.declared.identifier.Identifier.the-variants.{Basic, SelfAddressing}
+use Rattle.events_seal.specs.declared.seal.Seal.{Seal}
+use Rattle.events_seal.specs.declared.seal.Seal.the-variants.{Digest, Root, Source, Event as EventSeal, Last, Back, Kind, Opaque}
 use Rattle.codec.specs.Layout.{isMatter, goodSaid, goodPrefix, goodIdentity, goodSn, goodSeal, goodEvent}
 use Rattle.registry_state.specs.States.{Registry, viewRegistry, wellRegistry, wellCredential}
 use Rattle.registry_state.specs.declared.state.RegistryState.{RegistryState}

@@ -13,13 +13,13 @@ use Rattle.laws.proofs.Tests.{and-left, and-right}
 use Rattle.cesr.specs.declared.number.Sn.{Sn}
 use Rattle.cesr.specs.declared.primitive.Matter.{Matter}
 use Rattle.cesr.specs.declared.primitive.Said.{Said}
-use Rattle.events.specs.declared.seal.Seal.{Seal}
+use Rattle.events_seal.specs.declared.seal.Seal.{Seal}
 use Rattle.codec_cursor.specs.Readers.{placed, starting, stopped, need, counted}
 use Rattle.codec.specs.Events.{readSeal}
 use Rattle.codec.specs.Layout.{joined, sectionBytes, all, sealBytes, goodSeal}
-use Rattle.codec.proofs.Stands.{stands-first, whole-stands}
-use Rattle.codec.proofs.Codes.{leads, count-complete}
-use Rattle.codec.proofs.CodesSeal.{codes-seal}
+use Rattle.codec_laws.proofs.Stands.{stands-first, whole-stands}
+use Rattle.codec_laws.proofs.Codes.{leads, count-complete}
+use Rattle.codec_laws.proofs.CodesSeal.{codes-seal}
 use Rattle.registry_seals.specs.SealSections.{sealsEvent, onlySeal, anchorSeals}
 
 -- a reader of seals that has stopped stays so

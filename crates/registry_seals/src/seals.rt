@@ -2,9 +2,9 @@
 use cesr::number::Sn;
 use cesr::primitive::Matter;
 use cesr::primitive::Said;
-use codec::section::read_seal;
 use codec_cursor::cursor::Cursor;
-use events::seal::Seal;
+use codec_seal::seal::read_seal;
+use events_seal::seal::Seal;
 ghost use mathlib.Core.Path.{_≡_};
 ghost use Rattle.registry_seals.specs.SealSections.{chosen, sealSection, chosenSeals, sealsEvent, anchorSeals};
 

@@ -22,13 +22,13 @@ use Rattle.codec_cursor.specs.declared.cursor.Cursor.{Cursor}
 use Rattle.codec_cursor.specs.Readers.{Read, placed, isIdentifier}
 use Rattle.codec.specs.Events.{isConfig}
 use Rattle.codec.specs.Layout.{all, isMatter, goodSaid, goodIdentifier, goodSn, goodToad, goodConfigs, goodPrefix, goodPrefixes}
-use Rattle.codec.proofs.CodesRound.{codes-back, codes-again}
+use Rattle.codec_laws.proofs.CodesRound.{codes-back, codes-again}
 use Rattle.cesr.specs.declared.number.Sn.{Sn}
 use Rattle.cesr.specs.declared.primitive.Matter.{Matter}
 use Rattle.cesr.specs.declared.primitive.Said.{Said}
 use Rattle.cesr.specs.declared.primitive.BasicPrefix.{BasicPrefix}
-use Rattle.codec.proofs.Codes.{Codes, and-true, codes-map, codes-both, codes-quad, codes-sn, codes-said, codes-identifier}
-use Rattle.codec.proofs.CodesSeal.{codes-configs, codes-prefixes}
+use Rattle.codec_laws.proofs.Codes.{Codes, and-true, codes-map, codes-both, codes-quad, codes-sn, codes-said, codes-identifier}
+use Rattle.codec_laws.proofs.CodesSeal.{codes-configs, codes-prefixes}
 use Rattle.registry_state.specs.States.{Registry, registryBytes, credentialBytes, goodRegistry, goodCredential, registryOf, readRegistry, credentialOf, readCredential, viewRegistry, isBacker, wellRegistry, wellCredential, rangedRegistry, rangedCredential}
 use Rattle.registry_state.specs.declared.state.RegistryState.{RegistryState}
 use Rattle.registry_state.proofs.StateLoops.{all-weaker}

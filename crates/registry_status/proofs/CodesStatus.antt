@@ -16,11 +16,11 @@ use Rattle.cesr.specs.declared.primitive.Said.{Said}
 use Rattle.codec_cursor.specs.declared.cursor.Cursor.{Cursor}
 use Rattle.codec_cursor.specs.Readers.{placed, starting, mapped, readByte, readSaid, readIdentifier}
 use Rattle.codec.specs.Layout.{saidBytes, goodIdentifier}
-use Rattle.codec.proofs.Stands.{Stands, stays}
-use Rattle.codec.proofs.Codes.{Told, Codes, led, leads, shift, mapped-is, codes-map, codes-both, codes-said, codes-identifier}
-use Rattle.codec.proofs.CodesList.{codes-section}
-use Rattle.codec.proofs.CodesPlain.{plain, plain-told}
-use Rattle.codec.proofs.CodesRound.{whole-sound, whole-complete}
+use Rattle.codec_laws.proofs.Stands.{Stands, stays}
+use Rattle.codec_laws.proofs.Codes.{Told, Codes, led, leads, shift, mapped-is, codes-map, codes-both, codes-said, codes-identifier}
+use Rattle.codec_laws.proofs.CodesList.{codes-section}
+use Rattle.codec_laws.proofs.CodesPlain.{plain, plain-told}
+use Rattle.codec_laws.proofs.CodesRound.{whole-sound, whole-complete}
 use Rattle.registry_state.specs.States.{Registry, registryBytes, credentialBytes, goodRegistry, goodCredential, readRegistry, readCredential}
 use Rattle.registry_status.specs.Statuses.{Reference, Status, referenceBytes, statusBytes, goodReference, goodOptional, goodStatus, readReference, readRegistries, readCredentials, readIssuers, statusOf, readStatus, decodeStatus}
 use Rattle.registry_status.specs.Statuses.Reference.{unnamed, named, block}

@@ -24,8 +24,8 @@ use Rattle.cesr.specs.declared.primitive.Said.{Said}
 use Rattle.cesr.proofs.Matters.{length-matter}
 use Rattle.codec_cursor.specs.Readers.{placed, Read, starting, readNumber, readIf, readIdentifier, readSaid}
 use Rattle.codec.specs.Layout.{joined, sectionBytes, all, saidBytes, sealBytes, goodIdentifier, goodSn, goodSaid, goodSeal}
-use Rattle.codec.proofs.Stands.{Stands, stands-first, stands-rest, whole-stands}
-use Rattle.codec.proofs.Codes.{codes-sn, codes-said, codes-identifier}
+use Rattle.codec_laws.proofs.Stands.{Stands, stands-first, stands-rest, whole-stands}
+use Rattle.codec_laws.proofs.Codes.{codes-sn, codes-said, codes-identifier}
 use Rattle.registry_bytes.proofs.StateWrites.{length-sn}
 use Rattle.registry_wire.specs.Attempts.{Anchor, anchorBytes, goodAnchor, chosenAnchors, anchorsIn, partOf, Holds}
 use Rattle.registry_seals.specs.SealSections.{chosen, sealSection, onlySeal, anchorSeals}

@@ -22,8 +22,8 @@ use Rattle.codec_cursor.specs.Readers.{placed, Read, starting, need, readByte, 
 use Rattle.codec.specs.Events.{readEvent}
 use Rattle.codec.specs.Layout.{joined}
 use Rattle.codec.proofs.Loops.{count-within}
-use Rattle.codec.proofs.Codes.{codes-after}
-use Rattle.codec.proofs.CodesList.{codes-times, codes-section}
+use Rattle.codec_laws.proofs.Codes.{codes-after}
+use Rattle.codec_laws.proofs.CodesList.{codes-times, codes-section}
 use Rattle.registry_state.specs.States.{readRegistry}
 use Rattle.registry_wire.specs.Attempts.{Anchor, Decoded, anchorBytes, goodAnchor, readSource, readAnchor, readAnchors, readIssuer, readBackerAt, readEvidence, readMessage, decodeOf, anchorsIn, evidenceOf, evidenceAs, partOf, Holds, ReadAs, passedAnchors}
 use Rattle.registry_signatures.specs.SignatureSections.{signatureBytes, goodSignature, readSignature, signaturesIn, passedSignatures}

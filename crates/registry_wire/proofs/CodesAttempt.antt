@@ -15,18 +15,18 @@ use Rattle.cesr.specs.declared.number.Sn.{Sn}
 use Rattle.cesr.specs.declared.primitive.Matter.{Matter}
 use Rattle.cesr.specs.declared.primitive.Said.{Said}
 use Rattle.events_tel.specs.TelEvents.{Event}
-use Rattle.events.specs.declared.seal.Seal.{Seal}
+use Rattle.events_seal.specs.declared.seal.Seal.{Seal}
 use Rattle.codec_cursor.specs.declared.cursor.Cursor.{Cursor}
 use Rattle.codec_cursor.specs.Readers.{placed, starting, both, after, readByte, readIdentifier}
 use Rattle.codec.specs.Events.{readSeal}
 use Rattle.codec.specs.Layout.{joined, sectionBytes, all, sealBytes, goodIdentifier, goodSeal, goodToad}
-use Rattle.codec.proofs.Stands.{Stands, stays}
-use Rattle.codec.proofs.Codes.{Told, Codes, led, leads, shift, mapped-is, codes-like, codes-map, codes-both, codes-after, codes-quad, codes-sn, codes-said, codes-identifier}
-use Rattle.codec.proofs.CodesList.{codes-section}
-use Rattle.codec.proofs.CodesSeal.{codes-byte-test, codes-seal}
-use Rattle.codec.proofs.CodesEvent.{codes-event}
-use Rattle.codec.proofs.CodesPlain.{plain, plain-told}
-use Rattle.codec.proofs.CodesRound.{whole-sound, whole-complete}
+use Rattle.codec_laws.proofs.Stands.{Stands, stays}
+use Rattle.codec_laws.proofs.Codes.{Told, Codes, led, leads, shift, mapped-is, codes-like, codes-map, codes-both, codes-after, codes-quad, codes-sn, codes-said, codes-identifier}
+use Rattle.codec_laws.proofs.CodesList.{codes-section}
+use Rattle.codec_laws.proofs.CodesSeal.{codes-byte-test, codes-seal}
+use Rattle.codec_laws.proofs.CodesEvent.{codes-event}
+use Rattle.codec_laws.proofs.CodesPlain.{plain, plain-told}
+use Rattle.codec_laws.proofs.CodesRound.{whole-sound, whole-complete}
 use Rattle.registry_state.specs.States.{registryBytes, readRegistry}
 use Rattle.registry_wire.specs.Attempts.{Anchor, Evidence, Message, sourceBytes, anchorBytes, evidenceBytes, attemptBytes, goodSource, goodAnchor, goodAnchors, goodEvidence, goodMessage, sourceOf, readSource, readSeals, anchorOf, readAnchor, readAnchors, issuerOf, readIssuer, readBackerAt, readEvidence, messageOf, readMessage, decodeOf}
 use Rattle.registry_signatures.specs.SignatureSections.{Signature, signatureBytes, goodSignature, signatureOf, readSignature}

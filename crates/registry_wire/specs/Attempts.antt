@@ -11,7 +11,7 @@ use Rattle.cesr.specs.declared.number.Sn.{Sn}
 use Rattle.cesr.specs.declared.primitive.Matter.{Matter}
 use Rattle.cesr.specs.declared.primitive.Said.{Said}
 use Rattle.events_tel.specs.TelEvents.{Event, viewEvent}
-use Rattle.events.specs.declared.seal.Seal.{Seal}
+use Rattle.events_seal.specs.declared.seal.Seal.{Seal}
 use Rattle.codec_cursor.specs.declared.cursor.Cursor.{Cursor}
 use Rattle.codec_cursor.specs.Readers.{Read, Reader, placed, starting, need, readByte, readNumber, readIdentifier, readSaid, mapped, both, after, countUpTo, section}
 use Rattle.codec.specs.Events.{readSeal, readEvent}

@@ -2,8 +2,8 @@
 use cesr::number::Sn;
 use cesr::primitive::Said;
 use codec::section::count_up_to;
-use codec::section::pass_seals;
 use codec_cursor::cursor::Cursor;
+use codec_seal::seal::pass_seals;
 use codec_tel::tel::read_event;
 use events_tel::tel::TelEvent;
 use registry_signatures::signatures::Counted;

@@ -53,7 +53,7 @@ use Rattle.ledger_apply.specs.declared.apply.Applied.{Applied}
 use Rattle.ledger_apply.proofs.apply.Applied as B
 use Rattle.ledger_apply.proofs.apply.Applied.Laws as B′
 use Rattle.ledger_table.proofs.Spelled.{Parts, viewed}
-use Rattle.ledger_table.proofs.ApplyLedger.{next, applied-answer, applied-view, applied-kept}
+use Rattle.ledger_laws.proofs.ApplyLedger.{next, applied-answer, applied-view, applied-kept}
 use Rattle.host_report.specs.Reports.{answerReport}
 use Rattle.ledger_table.proofs.table.Ledger as K
 use Rattle.host_laws.proofs.LentLedger.{word, Count-g, Count-w, ref-gs, val-gs, Own-gs, ref-ws, val-ws, Own-ws, Kept}

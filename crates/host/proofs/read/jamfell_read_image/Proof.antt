@@ -46,7 +46,7 @@ use Rattle.ledger_read.proofs.read.ImageRead as I
 use Rattle.ledger_read.proofs.read.ImageRead.Laws as I′
 use Rattle.ledger_read.proofs.ReadBack.{ReadInto}
 use Rattle.ledger_table.proofs.Spelled.{Parts, length-g, length-w}
-use Rattle.ledger_table.proofs.ReadLedger.{next, answer-is, read-view, read-kept}
+use Rattle.ledger_laws.proofs.ReadLedger.{next, answer-is, read-view, read-kept}
 use Rattle.host_ledger.specs.LedgerCalls.{readReport}
 use Rattle.ledger_table.proofs.table.Ledger as K
 use Rattle.host_laws.proofs.LentLedger.{word, Count-g, Count-w, ref-gs, val-gs, Own-gs, ref-ws, val-ws, Own-ws, Kept}

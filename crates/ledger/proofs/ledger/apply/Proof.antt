@@ -65,7 +65,7 @@ use Rattle.ledger.specs.declared.ledger.LedgerApplied.{LedgerApplied}
 use Rattle.ledger.proofs.ledger.LedgerApplied as N
 use Rattle.ledger.proofs.ledger.LedgerApplied.Laws as N′
 use Rattle.ledger.proofs.SpelledApplied.{spelled-call, spelled-applied, whole-applied}
-use Rattle.ledger_table.proofs.ApplyLedger.{next, applied-answer, applied-view, applied-kept}
+use Rattle.ledger_laws.proofs.ApplyLedger.{next, applied-answer, applied-view, applied-kept}
 use Rattle.ledger_apply.proofs.apply.apply as callee
 use Rattle.ledger_apply.proofs.apply.apply.Symbol as callee-def
 use Rattle.ledger_apply.proofs.apply.apply.Symbol.{name as #callee}

@@ -66,7 +66,7 @@ use Rattle.ledger.specs.declared.ledger.LedgerRead.{LedgerRead}
 use Rattle.ledger.proofs.ledger.LedgerRead as N
 use Rattle.ledger.proofs.ledger.LedgerRead.Laws as N′
 use Rattle.ledger.proofs.SpelledRead.{spelled-read, whole-read}
-use Rattle.ledger_table.proofs.ReadLedger.{next, answer-is, read-view, read-kept}
+use Rattle.ledger_laws.proofs.ReadLedger.{next, answer-is, read-view, read-kept}
 use Rattle.ledger_read.proofs.read.read_image as callee
 use Rattle.ledger_read.proofs.read.read_image.Symbol as callee-def
 use Rattle.ledger_read.proofs.read.read_image.Symbol.{name as #callee}

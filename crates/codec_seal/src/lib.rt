@@ -1,0 +1,2 @@
+// Seals, read from bytes or passed (docs/RULES.md, "Bytes").
+pub mod seal;

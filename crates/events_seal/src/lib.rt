@@ -1,0 +1,3 @@
+// Identifiers and seals (docs/RULES.md, "Identifiers and seals").
+pub mod identifier;
+pub mod seal;

@@ -1,0 +1,2 @@
+pub mod ApplyLedger
+pub mod ReadLedger
