@@ -122,14 +122,8 @@ fn read_iss(c: Cursor, s: &[u8]) -> EventRead
     let credential = iss.pass_said(s);
     let registry = credential.pass_said(s);
     let next = pass_empty(registry.pass_said(s), s).count(s, 0);
-    let value = of_credential(
-        Kind::Iss,
-        iss.at,
-        credential.at,
-        registry.at,
-        0,
-        Seal::Digest,
-    );
+    let none = Seal::Digest;
+    let value = of_credential(Kind::Iss, iss.at, credential.at, registry.at, 0, none);
     EventRead { value, next }
 }
 
@@ -141,13 +135,14 @@ fn read_rev(c: Cursor, s: &[u8]) -> EventRead
     let registry = credential.pass_said(s);
     let prior = registry.pass_said(s);
     let next = pass_empty(prior.pass_said(s), s).count(s, 0);
+    let none = Seal::Digest;
     let value = of_credential(
         Kind::Rev,
         rev.at,
         credential.at,
         registry.at,
         prior.at,
-        Seal::Digest,
+        none,
     );
     EventRead { value, next }
 }
