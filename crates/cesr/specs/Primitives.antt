@@ -14,7 +14,7 @@ use Rattle.cesr.specs.declared.primitive.BasicPrefix.{BasicPrefix}
 abbrev pub none : Matter
 none = record { code = 0; w0 = 0; w1 = 0; w2 = 0; w3 = 0 }
 
--- its 33 bytes: the letter's lowest byte, of which it has no more where it is a letter, then the four words
+-- its 33 bytes: the letter, then the four words; of a code that is no byte, the lowest byte
 unfoldable pub matterBytes : Matter → List ℕ
 matterBytes m = m .code % 256 ∷ digits 8 (m .w0) ++ (digits 8 (m .w1) ++ (digits 8 (m .w2) ++ digits 8 (m .w3)))
 
