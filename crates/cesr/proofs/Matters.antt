@@ -1,14 +1,14 @@
 -- Laws of primitives.
---     matter-sets              a primitive is stored letter by word
+--     word-sets                a letter and four words are stored one by one
 --     length-matter            it has 33 bytes
 --     matter-apart             primitives that differ in the first word
 --     eq-matter, matter-eq     equality as a test, and as a path
 --     eq-said, said-eq, eq-prefix, prefix-eq   the same in either role
-use Prim.Native.Nat.{ℕ, _+_, _%_}
+use Prim.Native.Nat.{ℕ, _+_, _%_, _<_}
 use mathlib.Core.Path.{_≡_, refl, ap}
 use mathlib.Core.List.{List}
 use mathlib.Core.Bool.{Bool, true, false, cond, _&&_}
-use native.Mathlib.Nat.{add-assoc}
+use native.Mathlib.Nat.{add-assoc, mod-eq-of-lt}
 use native.Mathlib.Numerals.{add-one}
 use borrow.Author.Tests.{eq-eqb, ne-eqb, eqb-true}
 use lib.Dec.{leb, eqb}
@@ -22,14 +22,13 @@ use Rattle.laws.proofs.Tests.{and-left, and-right}
 use Rattle.cesr.specs.declared.primitive.Matter.{Matter}
 use Rattle.cesr.specs.declared.primitive.Said.{Said}
 use Rattle.cesr.specs.declared.primitive.BasicPrefix.{BasicPrefix}
-use Rattle.cesr.specs.Primitives.{none, matterBytes, readMatter, eqMatter, eqSaid, eqPrefix}
+use Rattle.cesr.specs.Primitives.{none, wordBytes, matterBytes, readMatter, eqMatter, eqSaid, eqPrefix}
 
 pub made : {a b c d e a' b' c' d' e' : ℕ} → a ≡ a' → b ≡ b' → c ≡ c' → d ≡ d' → e ≡ e' → _≡_ {A = Matter} (record { code = a; w0 = b; w1 = c; w2 = d; w3 = e }) (record { code = a'; w0 = b'; w1 = c'; w2 = d'; w3 = e' })
 made p q r s t = cc
 
-pub matter-sets : (l : List ℕ) (at : ℕ) (m : Matter) → sets (sets (sets (sets (set l at (m .code % 256)) (at + 1) (digits 8 (m .w0))) (at + 9) (digits 8 (m .w1))) (at + 17) (digits 8 (m .w2))) (at + 25) (digits 8 (m .w3)) ≡ sets l at (matterBytes m)
-unfolding matterBytes
-matter-sets l at m = simp (sets-append, length-digits, add-assoc) (rw (add-one at))
+pub word-sets : (l : List ℕ) (at c x y z w : ℕ) → sets (sets (sets (sets (set l at c) (at + 1) (digits 8 x)) (at + 9) (digits 8 y)) (at + 17) (digits 8 z)) (at + 25) (digits 8 w) ≡ sets l at (wordBytes c x y z w)
+word-sets l at c x y z w = simp (sets-append, length-digits, add-assoc) (rw (add-one at))
 
 pub length-matter : (m : Matter) → length (matterBytes m) ≡ 33
 unfolding matterBytes
@@ -52,6 +51,16 @@ matter-whole s at m h e = rw h e
 pub matter-none : (s : List ℕ) (at : ℕ) → leb (at + 33) (length s) ≡ false → none ≡ readMatter s at
 unfolding readMatter room
 matter-none s at h = rw h
+
+-- the bytes of a primitive that is there are those that it is read from
+pub matter-copied : (s : List ℕ) (at : ℕ) → leb (at + 33) (length s) ≡ true → lib.ListN.getD s at 0 < 256 → matterBytes (readMatter s at) ≡ wordBytes (lib.ListN.getD s at 0) (number s (at + 1) 8) (number s (at + 9) 8) (number s (at + 17) 8) (number s (at + 25) 8)
+unfolding matterBytes readMatter room
+matter-copied s at h p = rw (h, mod-eq-of-lt p)
+
+-- and it is compared by them
+pub same-whole : (m : Matter) (s : List ℕ) (at : ℕ) → leb (at + 33) (length s) ≡ true → (eqb (m .code) (lib.ListN.getD s at 0) && eqb (m .w0) (number s (at + 1) 8) && eqb (m .w1) (number s (at + 9) 8) && eqb (m .w2) (number s (at + 17) 8) && eqb (m .w3) (number s (at + 25) 8)) ≡ eqMatter m (readMatter s at)
+unfolding eqMatter readMatter room
+same-whole m s at h = rw h
 
 -- the test is true of equal primitives alone
 pub matter-eq : (a b : Matter) → eqMatter a b ≡ true → a ≡ b

@@ -14,9 +14,13 @@ use Rattle.cesr.specs.declared.primitive.BasicPrefix.{BasicPrefix}
 abbrev pub none : Matter
 none = record { code = 0; w0 = 0; w1 = 0; w2 = 0; w3 = 0 }
 
--- its 33 bytes: the letter, then the four words; of a code that is no byte, the lowest byte
+-- 33 bytes: a letter, then four words
+abbrev pub wordBytes : ℕ → ℕ → ℕ → ℕ → ℕ → List ℕ
+wordBytes code w0 w1 w2 w3 = code ∷ digits 8 w0 ++ (digits 8 w1 ++ (digits 8 w2 ++ digits 8 w3))
+
+-- the bytes of a primitive; of a code that is no byte, the lowest byte
 unfoldable pub matterBytes : Matter → List ℕ
-matterBytes m = m .code % 256 ∷ digits 8 (m .w0) ++ (digits 8 (m .w1) ++ (digits 8 (m .w2) ++ digits 8 (m .w3)))
+matterBytes m = wordBytes (m .code % 256) (m .w0) (m .w1) (m .w2) (m .w3)
 
 -- the primitive in the 33 bytes from at, or none where they are not all there
 unfoldable pub readMatter : List ℕ → ℕ → Matter
