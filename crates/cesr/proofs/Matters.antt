@@ -58,7 +58,7 @@ unfolding matterBytes readMatter room
 matter-copied s at h p = rw (h, mod-eq-of-lt p)
 
 -- and it is compared by them
-pub same-whole : (m : Matter) (s : List ℕ) (at : ℕ) → leb (at + 33) (length s) ≡ true → (eqb (m .code) (lib.ListN.getD s at 0) && eqb (m .w0) (number s (at + 1) 8) && eqb (m .w1) (number s (at + 9) 8) && eqb (m .w2) (number s (at + 17) 8) && eqb (m .w3) (number s (at + 25) 8)) ≡ eqMatter m (readMatter s at)
+pub same-whole : (m : Matter) (s : List ℕ) (at : ℕ) → leb (at + 33) (length s) ≡ true → (eqb (lib.ListN.getD s at 0) (m .code) && eqb (number s (at + 1) 8) (m .w0) && eqb (number s (at + 9) 8) (m .w1) && eqb (number s (at + 17) 8) (m .w2) && eqb (number s (at + 25) 8) (m .w3)) ≡ eqMatter (readMatter s at) m
 unfolding eqMatter readMatter room
 same-whole m s at h = rw h
 

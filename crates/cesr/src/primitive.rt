@@ -95,16 +95,16 @@ impl Matter {
 
     // Whether the primitive at a place is this one. It is compared where it stands, since a primitive that is read is first stored and then loaded again.
     pub fn same_at(self, s: &[u8], at: usize) -> bool
-        ensures { λ r. ⌜ r ≡ eqMatter self (readMatter (now (s .entry)) at) ⌝ }
+        ensures { λ r. ⌜ r ≡ eqMatter (readMatter (now (s .entry)) at) self ⌝ }
     {
         if !has_room(s.len(), at, 33) {
-            return self.same(Matter::none());
+            return Matter::none().same(self);
         }
-        (self.code == s[at] as u64)
-            & (self.w0 == word(s, at + 1))
-            & (self.w1 == word(s, at + 9))
-            & (self.w2 == word(s, at + 17))
-            & (self.w3 == word(s, at + 25))
+        (s[at] as u64 == self.code)
+            & (word(s, at + 1) == self.w0)
+            & (word(s, at + 9) == self.w1)
+            & (word(s, at + 17) == self.w2)
+            & (word(s, at + 25) == self.w3)
     }
 
     // The primitive at a place, stored at another without being read. Stores all 33 bytes or none, and answers which.
