@@ -1,9 +1,14 @@
 -- What an accepted chain of checks says of each of them.
 --     or-first, or-second   both parts accept
 --     passed                a check that accepts has a test that holds
-use mathlib.Core.Path.{_≡_, refl}
+-- What checks made one after the other come to, where each that refuses is returned.
+--     first-refused, first-failed     the first that refuses decides
+--     first-accepted, first-passed    one that accepts gives way to the rest
+--     first-last                      the last decides by itself
+use mathlib.Core.Path.{_≡_, refl, sym}
+use mathlib.Core.List.{List, [], _∷_}
 use mathlib.Core.Bool.{Bool, true, false, false≢true}
-use Rattle.registry_answer.specs.Answers.{accepts, acceptIf, orElse}
+use Rattle.registry_answer.specs.Answers.{accepts, acceptIf, orElse, firstOf}
 use Rattle.registry_error.specs.declared.error.Answer.{Answer}
 use Rattle.registry_error.specs.declared.error.Answer.the-variants.{Accepted, Rejected}
 use Rattle.registry_error.specs.declared.error.RegistryRejection.{RegistryRejection}
@@ -20,3 +25,26 @@ pub passed : (t : Bool) (r : RegistryRejection) → accepts (acceptIf t r) ≡ t
 unfolding acceptIf
 passed true r h = refl
 passed false r h = h
+
+pub first-refused : (x : Answer) (l : List Answer) → accepts x ≡ false → firstOf (x ∷ l) ≡ x
+unfolding firstOf
+first-refused Accepted l h = absurd (false≢true (sym h))
+first-refused (Rejected r) l h = refl
+
+pub first-accepted : (x : Answer) (l : List Answer) → accepts x ≡ true → firstOf (x ∷ l) ≡ firstOf l
+unfolding firstOf
+first-accepted Accepted l h = refl
+first-accepted (Rejected r) l h = absurd (false≢true h)
+
+pub first-failed : (t : Bool) (r : RegistryRejection) (l : List Answer) → t ≡ false → firstOf (acceptIf t r ∷ l) ≡ Rejected r
+unfolding firstOf acceptIf
+first-failed t r l h = rw h
+
+pub first-passed : (t : Bool) (r : RegistryRejection) (l : List Answer) → t ≡ true → firstOf (acceptIf t r ∷ l) ≡ firstOf l
+unfolding firstOf acceptIf
+first-passed t r l h = rw h
+
+pub first-last : (x : Answer) → firstOf (x ∷ []) ≡ x
+unfolding firstOf
+first-last Accepted = refl
+first-last (Rejected r) = refl

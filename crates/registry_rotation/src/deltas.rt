@@ -12,7 +12,7 @@ use events_tel::tel::Listed;
 ghost use mathlib.Core.Path.{_≡_};
 ghost use mathlib.Core.Bool.{true, false, cond};
 ghost use mathlib.Core.List.{[]};
-ghost use Rattle.events.specs.Members.{view, has, isRepeat, isMissing, check, checkDeltas, checkCurrent};
+ghost use Rattle.events.specs.Members.{view, has, isRepeat, isMissing, check, checkMembers, checkDeltas, checkCurrent};
 ghost use Rattle.events_tel.specs.TelEvents.{membersIn};
 ghost use Rattle.codec_cursor.specs.Readers.{readPrefix, times};
 
@@ -78,6 +78,13 @@ fn check_held(s: &[u8], rule: Rule, list: Listed, current: Members, missing: boo
         i += 1;
     }
     Membership::Sound
+}
+
+// No backer stands twice.
+pub fn check_members(s: &[u8], backers: Listed) -> Membership
+    ensures { λ r. ⌜ r ≡ checkMembers (membersIn (now (s .entry)) backers) ⌝ }
+{
+    check_listed(s, Rule::DuplicateBacker, backers, backers, true)
 }
 
 // No cut stands twice, no addition stands twice, and no cut is added.
