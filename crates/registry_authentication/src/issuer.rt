@@ -2,31 +2,31 @@
 use cesr::number::Sn;
 use cesr::primitive::Matter;
 use cesr::primitive::Said;
+use codec_cursor::cursor::Cursor;
 use registry_answer::answer::accept_if;
-use registry_answer::answer::or_else;
+use registry_answer::answer::accepts;
 use registry_error::error::Answer;
 use registry_error::error::RegistryRejection;
 use registry_seals::seals::anchor_seals;
 use registry_seals::seals::chosen;
 use registry_seals::seals::chosen_seals;
-use registry_wire::attempt::Attempt;
 use registry_wire::attempt::Part;
 use registry_wire::attempt::Source;
 ghost use Prim.Native.Nat.{ℕ};
 ghost use mathlib.Core.Path.{_≡_};
 ghost use mathlib.Core.List.{List};
-ghost use Rattle.cesr.specs.Primitives.{saidAt};
+ghost use Rattle.cesr.specs.Primitives.{readMatter, saidAt};
 ghost use Rattle.cesr.specs.declared.primitive.Matter.{Matter as MatterValue};
 ghost use Rattle.registry_state.specs.States.{optional};
-ghost use Rattle.codec_cursor.specs.declared.cursor.Cursor.{Cursor};
-ghost use Rattle.registry_wire.specs.Attempts.{evidenceAs, sourcesIn, evidenceIn, partOf};
+ghost use Rattle.codec_cursor.specs.declared.cursor.Cursor.{Cursor as CursorValue};
+ghost use Rattle.registry_wire.specs.Attempts.{readSource, evidenceAs, partOf};
 ghost use Rattle.registry_seals.specs.SealSections.{chosen as chosenEvent};
 ghost use Rattle.registry_wire.specs.declared.attempt.Part.{Part as PartValue};
 ghost use Rattle.registry_authentication.specs.Issuers.{issuerKind, namesIssuer, anchoredIn, authenticateIn};
 
 // Whether the evidence that is due, Issuer, is there: by its byte, whatever it holds.
 pub fn issuer_kind(evidence: u8) -> Answer
-    ensures { λ r. ⌜ ((b : List ℕ) (p : MatterValue) (c : PartValue) (g : Cursor) → r ≡ issuerKind (evidenceAs b evidence p c g)) ⌝ }
+    ensures { λ r. ⌜ ((b : List ℕ) (p : MatterValue) (c : PartValue) (g : CursorValue) → r ≡ issuerKind (evidenceAs b evidence p c g)) ⌝ }
 {
     if evidence == 1 {
         return Answer::Accepted;
@@ -42,7 +42,7 @@ pub fn issuer_kind(evidence: u8) -> Answer
 
 // Whether it is Issuer and its prefix this one.
 pub fn names_issuer(evidence: u8, prefix: Matter, issuer: Matter) -> bool
-    ensures { λ r. ⌜ ((b : List ℕ) (c : PartValue) (g : Cursor) → r ≡ namesIssuer (evidenceAs b evidence prefix c g) issuer) ⌝ }
+    ensures { λ r. ⌜ ((b : List ℕ) (c : PartValue) (g : CursorValue) → r ≡ namesIssuer (evidenceAs b evidence prefix c g) issuer) ⌝ }
 {
     if evidence != 1 {
         return false;
@@ -70,37 +70,60 @@ pub fn verify_kel_anchor<'a>(
     if event.len() == 0 {
         return Answer::Rejected(RegistryRejection::MissingAnchor);
     }
-    let prefix = Matter::read(event, 0);
     let at = Sn::read(event, 33);
-    let digest = Matter::read(event, 49);
-    let head = prefix.same(issuer) & (at.same(source.sn) & digest.same(source.said.0));
+    let digest = source.said.0;
+    let head = issuer.same_at(event, 0) & (at.same(source.sn) & digest.same_at(event, 49));
     let sealed = anchor_seals(chosen_seals(evidence, message), id.0, sn, said);
     accept_if(head & sealed, RegistryRejection::InconsistentAnchor)
 }
 
-// The message's anchoring event alone: of vcp, bis and brv.
-pub fn message_anchored(a: Attempt, s: &[u8], issuer: Matter, id: Said, sn: Sn) -> Answer
-    ensures { λ r. ⌜ r ≡ anchoredIn issuer id sn (saidAt (now (s .entry)) (a .event .said)) (sourcesIn (now (s .entry)) a) (partOf (now (s .entry)) (a .anchor)) ⌝ }
+// The message's anchoring event alone: of vcp, bis and brv. What an attempt says of it is handed over part by part, since an attempt is copied at every call; `at` is the place of the event's said.
+pub fn message_anchored(
+    s: &[u8],
+    at: usize,
+    sources: usize,
+    source: Cursor,
+    anchor: Part,
+    issuer: Matter,
+    id: Said,
+    sn: Sn,
+) -> Answer
+    ensures { λ r. ⌜ r ≡ anchoredIn issuer id sn (saidAt (now (s .entry)) at) (optional sources (readSource (now (s .entry)) source .value)) (partOf (now (s .entry)) anchor) ⌝ }
 {
     let none = Part { from: 0, to: 0 };
     let evidence = none.bytes(s);
-    let message = a.anchor.bytes(s);
-    let source = Source::read(a.source, s);
-    let said = Said::read(s, a.event.said);
-    verify_kel_anchor(evidence, message, a.sources, source, issuer, id, sn, said)
+    let message = anchor.bytes(s);
+    let origin = Source::read(source, s);
+    let said = Said::read(s, at);
+    verify_kel_anchor(evidence, message, sources, origin, issuer, id, sn, said)
 }
 
-// The issuer's evidence, and the anchoring event that it carries, else the message's: of vrt, iss and rev.
-pub fn authenticate_issuer(a: Attempt, s: &[u8], issuer: Matter, id: Said, sn: Sn) -> Answer
-    ensures { λ r. ⌜ r ≡ authenticateIn issuer id sn (saidAt (now (s .entry)) (a .event .said)) (evidenceIn (now (s .entry)) a) (sourcesIn (now (s .entry)) a) (chosenEvent (partOf (now (s .entry)) (a .carried)) (partOf (now (s .entry)) (a .anchor))) ⌝ }
+// The issuer's evidence, and the anchoring event that it carries, else the message's: of vrt, iss and rev. `prefix` is the place of the evidence's prefix.
+pub fn authenticate_issuer(
+    s: &[u8],
+    at: usize,
+    sources: usize,
+    source: Cursor,
+    anchor: Part,
+    evidence: u8,
+    prefix: usize,
+    carried: Part,
+    issuer: Matter,
+    id: Said,
+    sn: Sn,
+) -> Answer
+    ensures { λ r. ⌜ ((g : CursorValue) → r ≡ authenticateIn issuer id sn (saidAt (now (s .entry)) at) (evidenceAs (now (s .entry)) evidence (readMatter (now (s .entry)) prefix) carried g) (optional sources (readSource (now (s .entry)) source .value)) (chosenEvent (partOf (now (s .entry)) carried) (partOf (now (s .entry)) anchor))) ⌝ }
 {
-    let kind = issuer_kind(a.evidence);
-    let named = names_issuer(a.evidence, Matter::read(s, a.issuer), issuer);
-    let prefix = accept_if(named, RegistryRejection::InconsistentIssuer);
-    let evidence = a.carried.bytes(s);
-    let message = a.anchor.bytes(s);
-    let source = Source::read(a.source, s);
-    let said = Said::read(s, a.event.said);
-    let anchor = verify_kel_anchor(evidence, message, a.sources, source, issuer, id, sn, said);
-    or_else(kind, or_else(prefix, or_else(anchor, Answer::Accepted)))
+    let kind = issuer_kind(evidence);
+    if !accepts(kind) {
+        return kind;
+    }
+    if !issuer.same_at(s, prefix) {
+        return Answer::Rejected(RegistryRejection::InconsistentIssuer);
+    }
+    let event = carried.bytes(s);
+    let message = anchor.bytes(s);
+    let origin = Source::read(source, s);
+    let said = Said::read(s, at);
+    verify_kel_anchor(event, message, sources, origin, issuer, id, sn, said)
 }

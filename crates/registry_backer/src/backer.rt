@@ -2,59 +2,47 @@
 use cesr::number::Sn;
 use cesr::primitive::Said;
 use codec_cursor::cursor::Cursor;
-use events::member_set::MemberSet;
-use events::member_set::Members;
 use events_seal::seal::Seal;
 use events_toad::toad::Toad;
 use registry_answer::answer::accept_if;
+use registry_answer::answer::accepts;
 use registry_answer::answer::backer_set;
-use registry_answer::answer::or_else;
 use registry_error::error::Answer;
 use registry_error::error::RegistryRejection;
+use registry_management::management::Backing;
+use registry_management::management::Management;
+use registry_management::management::backing_in;
+use registry_management::management::read_management;
 use registry_signatures::signatures::Counted;
-use registry_state::state::RegistryState;
 use registry_verification::verification::valid_receipts;
 ghost use Prim.Native.Nat.{ℕ, min};
 ghost use mathlib.Core.Path.{_≡_};
 ghost use mathlib.Core.List.{List};
 ghost use Rattle.cesr.specs.declared.primitive.Matter.{Matter};
-ghost use Rattle.events.specs.Members.{view};
-ghost use Rattle.registry_state.specs.States.{viewRegistry};
+ghost use Rattle.cesr.specs.declared.primitive.BasicPrefix.{BasicPrefix};
+ghost use Rattle.registry_management.specs.Managements.{viewManagement, Backs};
 ghost use Rattle.registry_wire.specs.Attempts.{evidenceOf, evidenceAs};
 ghost use Rattle.registry_signatures.specs.SignatureSections.{signaturesIn};
 ghost use Rattle.registry_wire.specs.declared.attempt.Part.{Part};
-ghost use Rattle.registry_backer.specs.Backers.{isBackerless, sameRegistry, standsAt, resolvedBy, namesRegistry, resolved, enoughReceipts, backedBy, authenticateBacker};
-
-// Whether the trait NoBackers is set. The list of backers is not looked at.
-pub fn is_backerless(g: RegistryState) -> bool
-    ensures { λ r. ⌜ r ≡ isBackerless (viewRegistry g) ⌝ }
-{
-    g.configs.no_backers()
-}
+ghost use Rattle.registry_backer.specs.Backers.{sameRegistry, standsAt, resolvedBy, namesRegistry, resolved, enoughReceipts, backedBy, authenticateBacker};
 
 // Whether two states are of one registry: id, issuer and config are the same.
-pub fn same_registry(g: RegistryState, h: RegistryState) -> bool
-    ensures { λ r. ⌜ r ≡ sameRegistry (viewRegistry g) (viewRegistry h) ⌝ }
+pub fn same_registry(g: Management, h: Management) -> bool
+    ensures { λ r. ⌜ ((k l : List BasicPrefix) → r ≡ sameRegistry (viewManagement g k) (viewManagement h l)) ⌝ }
 {
     g.id.same(h.id) & (g.issuer.same(h.issuer) & g.configs.same(h.configs))
 }
 
 // Whether a state stands at this sn with this event.
-pub fn stands_at(g: RegistryState, s: Sn, d: Said) -> bool
-    ensures { λ r. ⌜ r ≡ standsAt (viewRegistry g) s d ⌝ }
+pub fn stands_at(g: Management, s: Sn, d: Said) -> bool
+    ensures { λ r. ⌜ ((l : List BasicPrefix) → r ≡ standsAt (viewManagement g l) s d) ⌝ }
 {
     g.sn.same(s) & g.latest.same(d)
 }
 
 // Whether the evidence has the state that the seal's s and d name.
-pub fn resolved_by(
-    g: RegistryState,
-    s: Sn,
-    d: Said,
-    evidence: u8,
-    management: RegistryState,
-) -> Answer
-    ensures { λ r. ⌜ ((b : List ℕ) (p : Matter) (c : Part) → r ≡ resolvedBy (viewRegistry g) s d (evidenceOf b evidence p c (viewRegistry management))) ⌝ }
+pub fn resolved_by(g: Management, s: Sn, d: Said, evidence: u8, management: Management) -> Answer
+    ensures { λ r. ⌜ ((b : List ℕ) (p : Matter) (c : Part) (k l : List BasicPrefix) → r ≡ resolvedBy (viewManagement g k) s d (evidenceOf b evidence p c (viewManagement management l))) ⌝ }
 {
     if evidence == 1 {
         return Answer::Rejected(RegistryRejection::InconsistentIssuer);
@@ -87,19 +75,18 @@ pub fn names_registry(seal: Seal, id: Said) -> bool
 }
 
 // Whether the seal is an event seal that names the registry, and the evidence has the state that it names.
-pub fn resolved(g: RegistryState, seal: Seal, evidence: u8, management: RegistryState) -> Answer
-    ensures { λ r. ⌜ ((b : List ℕ) (p : Matter) (c : Part) → r ≡ resolved (viewRegistry g) seal (evidenceOf b evidence p c (viewRegistry management))) ⌝ }
+pub fn resolved(g: Management, seal: Seal, evidence: u8, management: Management) -> Answer
+    ensures { λ r. ⌜ ((b : List ℕ) (p : Matter) (c : Part) (k l : List BasicPrefix) → r ≡ resolved (viewManagement g k) seal (evidenceOf b evidence p c (viewManagement management l))) ⌝ }
 {
     match seal {
         Seal::Digest => Answer::Rejected(RegistryRejection::InconsistentManagement),
         Seal::Root => Answer::Rejected(RegistryRejection::InconsistentManagement),
         Seal::Source => Answer::Rejected(RegistryRejection::InconsistentManagement),
         Seal::Event { i, s, d } => {
-            let named = accept_if(
-                i.matter().same(g.id.0),
-                RegistryRejection::InconsistentRegistry,
-            );
-            or_else(named, resolved_by(g, s, d, evidence, management))
+            if i.matter().same(g.id.0) {
+                return resolved_by(g, s, d, evidence, management);
+            }
+            Answer::Rejected(RegistryRejection::InconsistentRegistry)
         }
         Seal::Last => Answer::Rejected(RegistryRejection::InconsistentManagement),
         Seal::Back => Answer::Rejected(RegistryRejection::InconsistentManagement),
@@ -122,38 +109,59 @@ pub fn enough_receipts(s: &[u8], signatures: Counted, backers: usize, toad: Toad
 }
 
 // The rules on the authority's backers and toad, and its receipts.
-pub fn backed_by(s: &[u8], signatures: Counted, backers: Members, toad: Toad) -> Answer
-    ensures { λ r. ⌜ r ≡ backedBy (toad .0) (view backers) (signaturesIn (now (s .entry)) signatures) ⌝ }
+pub fn backed_by(s: &[u8], signatures: Counted, backers: Backing, toad: Toad) -> Answer
+    ensures { λ r. ⌜ ((l : List BasicPrefix) → Backs backers l → r ≡ backedBy (toad .0) l (signaturesIn (now (s .entry)) signatures)) ⌝ }
 {
-    let members = backer_set(MemberSet::check_members(backers));
-    let count = backers.size();
-    let exact = toad.is_exact(count);
-    let threshold = accept_if(exact, RegistryRejection::BackerThreshold);
-    let receipts = enough_receipts(s, signatures, count, toad);
-    or_else(
-        members,
-        or_else(threshold, or_else(receipts, Answer::Accepted)),
-    )
+    let members = backer_set(backers.members);
+    if !accepts(members) {
+        return members;
+    }
+    let count = backers.count;
+    if !toad.is_exact(count) {
+        return Answer::Rejected(RegistryRejection::BackerThreshold);
+    }
+    enough_receipts(s, signatures, count, toad)
 }
 
-// The authority that the event's seal and the evidence name, and what it must have signed. BackerAt's state is read from its place in the bytes where it is used. What the authority must have signed is asked of its backers and toad alone, since a state is copied at every call.
-pub fn authenticate_backer(
+// The authority that BackerAt's state is, which is read from its place in the bytes.
+fn backed_at(
     s: &[u8],
     signatures: Counted,
-    g: RegistryState,
+    g: Management,
     seal: Seal,
     evidence: u8,
     management: Cursor,
 ) -> Answer
-    ensures { λ r. ⌜ ((p : Matter) (c : Part) → r ≡ authenticateBacker (viewRegistry g) seal (evidenceAs (now (s .entry)) evidence p c management) (signaturesIn (now (s .entry)) signatures)) ⌝ }
+    requires { ⌜ evidence ≡ 3 ⌝ }
+    ensures { λ r. ⌜ ((p : Matter) (c : Part) (l : List BasicPrefix) → r ≡ authenticateBacker (viewManagement g l) seal (evidenceAs (now (s .entry)) evidence p c management) (signaturesIn (now (s .entry)) signatures)) ⌝ }
+{
+    let held = read_management(management, s);
+    let found = resolved(g, seal, evidence, held.value);
+    if !accepts(found) {
+        return found;
+    }
+    let backing = backing_in(s, held.backers);
+    backed_by(s, signatures, backing, held.value.toad)
+}
+
+// The authority that the event's seal and the evidence name, and what it must have signed.
+pub fn authenticate_backer(
+    s: &[u8],
+    signatures: Counted,
+    g: Management,
+    backers: Backing,
+    seal: Seal,
+    evidence: u8,
+    management: Cursor,
+) -> Answer
+    ensures { λ r. ⌜ ((p : Matter) (c : Part) (l : List BasicPrefix) → Backs backers l → r ≡ authenticateBacker (viewManagement g l) seal (evidenceAs (now (s .entry)) evidence p c management) (signaturesIn (now (s .entry)) signatures)) ⌝ }
 {
     if evidence == 3 {
-        let held = RegistryState::read(management, s);
-        let found = resolved(g, seal, evidence, held.value);
-        let backed = backed_by(s, signatures, held.value.backers, held.value.toad);
-        return or_else(found, or_else(backed, Answer::Accepted));
+        return backed_at(s, signatures, g, seal, evidence, management);
     }
     let found = resolved(g, seal, evidence, g);
-    let backed = backed_by(s, signatures, g.backers, g.toad);
-    or_else(found, or_else(backed, Answer::Accepted))
+    if !accepts(found) {
+        return found;
+    }
+    backed_by(s, signatures, backers, g.toad)
 }

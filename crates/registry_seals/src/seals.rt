@@ -3,10 +3,8 @@ use cesr::number::Sn;
 use cesr::primitive::Matter;
 use cesr::primitive::Said;
 use codec_cursor::cursor::Cursor;
-use codec_seal::seal::read_seal;
-use events_seal::seal::Seal;
 ghost use mathlib.Core.Path.{_≡_};
-ghost use Rattle.registry_seals.specs.SealSections.{chosen, sealSection, chosenSeals, sealsEvent, anchorSeals};
+ghost use Rattle.registry_seals.specs.SealSections.{chosen, sealSection, chosenSeals, anchorSeals};
 
 // What stands behind prefix, sn and said: no bytes where the event is shorter.
 fn seal_section<'a>(event: &'a [u8]) -> &'a [u8]
@@ -36,29 +34,17 @@ pub fn chosen_seals<'a>(evidence: &'a [u8], message: &'a [u8]) -> &'a [u8]
     seal_section(chosen(evidence, message))
 }
 
-// Whether a seal is the event seal with this i, s and d.
-pub fn seals_event(seal: Seal, i: Matter, s: Sn, d: Said) -> bool
-    ensures { λ r. ⌜ r ≡ sealsEvent seal i s d ⌝ }
-{
-    match seal {
-        Seal::Digest => false,
-        Seal::Root => false,
-        Seal::Source => false,
-        Seal::Event { i: j, s: t, d: e } => j.matter().same(i) & (t.same(s) & e.same(d)),
-        Seal::Last => false,
-        Seal::Back => false,
-        Seal::Kind => false,
-        Seal::Opaque => false,
-    }
-}
-
-// Whether a section holds exactly one seal, the event seal with this i, s and d.
+// Whether a section holds exactly one seal, the event seal with this i, s and d. The seal is compared where it stands.
 pub fn anchor_seals(section: &[u8], i: Matter, s: Sn, d: Said) -> bool
     ensures { λ r. ⌜ r ≡ anchorSeals (now (section .entry)) i s d ⌝ }
 {
-    let r = read_seal(Cursor::start().count(section, 1), section);
-    let seal = r.value;
-    let next = r.next;
+    let kind = Cursor::start().count(section, 1).byte(section);
+    let from = kind.next;
+    let number = from.pass_identifier(section);
+    let digest = number.advance(section, 16);
+    let next = digest.pass_said(section);
     let whole = next.ok & (next.at == section.len());
-    whole & seals_event(seal, i, s, d)
+    let t = Sn::read(section, number.at);
+    let wanted = i.same_at(section, from.at) & (t.same(s) & d.0.same_at(section, digest.at));
+    (kind.value == 4) & (whole & wanted)
 }

@@ -1,6 +1,6 @@
 use denote.Ref.{now}
 use mathlib.Core.Path.{refl}
-use Rattle.registry_wire.specs.Attempts.{sourcesIn, partOf}
+use Rattle.registry_wire.specs.Attempts.{partOf}
 use Rattle.registry_authentication.proofs.AnchorUse.{none-chosen}
 use borrow.Author.Needs.{needs}
 use Rattle.registry_authentication.proofs.issuer.message_anchored.Statement.{statement}
@@ -22,7 +22,6 @@ verify-kel-anchor-requires : tie.Need-verify-kel-anchor-requires
 verify-kel-anchor-requires c κs = search needs
 
 returns : tie.Need-returns
-unfolding sourcesIn
 returns c =
     let b3 = c .before .before .before in
     let z = b3 .before .before .before .args in
@@ -32,7 +31,7 @@ returns c =
       c .before .before .read .ensures,
       b3 .bytes2 .ensures,
       b3 .before .bytes .ensures,
-      none-chosen (now (z .s)) _ (partOf (now (z .s)) (z .a .anchor)) refl,
+      none-chosen (now (z .s)) _ (partOf (now (z .s)) (z .anchor)) refl,
     )
 
 pub message-anchored-spec : {M : Type 1} → statement M

@@ -20,20 +20,14 @@ returns-2 c =
 read-requires : tie.Need-read-requires
 read-requires c κs = search needs
 
-read-requires-2 : tie.Need-read-requires-2
-read-requires-2 c κs = search needs
-
-read-requires-3 : tie.Need-read-requires-3
-read-requires-3 c κs = search needs
+same-at-requires : tie.Need-same-at-requires
+same-at-requires c κs = search needs
 
 same-requires : tie.Need-same-requires
 same-requires c κs = search needs
 
-same-requires-2 : tie.Need-same-requires-2
-same-requires-2 c κs = search needs
-
-same-requires-3 : tie.Need-same-requires-3
-same-requires-3 c κs = search needs
+same-at-requires-2 : tie.Need-same-at-requires-2
+same-at-requires-2 c κs = search needs
 
 chosen-seals-requires : tie.Need-chosen-seals-requires
 chosen-seals-requires c κs = search needs
@@ -48,22 +42,20 @@ returns-3 : tie.Need-returns-3
 unfolding chosenSeals
 returns-3 c =
     let b3 = c .before .before .before in
-    let b6 = b3 .before .before .before in
-    let b9 = b6 .before .before .before in
-    let b11 = b9 .before .before in
+    let b7 = b3 .before .before .before .before in
+    let b9 = b7 .before .before in
+    let b10 = b9 .before in
     rw (
-      ne-eqb (b11 .before .before .before .args .sources) 0 (b9 .before .if1 .left),
+      ne-eqb (b10 .before .before .before .args .sources) 0 (b9 .if1 .left),
       c .accept-if .ensures,
       c .before .anchor-seals .ensures,
       c .before .before .chosen-seals .ensures,
-      b3 .same3 .ensures,
-      b3 .before .same2 .ensures,
-      b3 .before .before .same .ensures,
-      b6 .read3 .ensures,
-      b6 .before .read2 .ensures,
-      b6 .before .before .read .ensures,
-      ← b11 .chosen .ensures,
-      ne-eqb (length (now (b11 .chosen .result))) 0 (b9 .if2 .left),
+      b3 .same-at2 .ensures,
+      b3 .before .same .ensures,
+      b3 .before .before .same-at .ensures,
+      b7 .read .ensures,
+      ← b10 .chosen .ensures,
+      ne-eqb (length (now (b10 .chosen .result))) 0 (b7 .before .if2 .left),
     )
 
 pub verify-kel-anchor-spec : {M : Type 1} → statement M
@@ -74,11 +66,9 @@ verify-kel-anchor-spec =
     returns
     returns-2
     read-requires
-    read-requires-2
-    read-requires-3
+    same-at-requires
     same-requires
-    same-requires-2
-    same-requires-3
+    same-at-requires-2
     chosen-seals-requires
     anchor-seals-requires
     accept-if-requires
