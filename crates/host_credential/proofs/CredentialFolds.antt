@@ -1,4 +1,5 @@
 -- The folds over states that were read.
+--     registry-none, registry-some   whether bytes are a registry state
 --     issue, revocation   where they are states
 --     revocation-none     where one of the two is none
 use Prim.Native.Nat.{ℕ}
@@ -6,22 +7,35 @@ use mathlib.Core.Path.{_≡_, refl}
 use mathlib.Core.Bool.{Bool, true, false, _&&_}
 use mathlib.Core.List.{List}
 use mathlib.Core.Option.{Option, none, some}
-use Rattle.registry_state.specs.States.{Registry, viewRegistry, wellRegistry, wellCredential}
-use Rattle.registry_state.specs.declared.state.RegistryState.{RegistryState}
+use lib.Dec.{eqb}
+use lib.ListN.{length}
+use Rattle.codec_cursor.specs.declared.cursor.Cursor.{Cursor}
+use Rattle.codec_cursor.specs.Readers.{Read, starting}
+use Rattle.registry_state.specs.States.{Registry, readRegistry}
 use Rattle.registry_state.specs.declared.state.CredentialState.{CredentialState}
 use Rattle.registry_issue.specs.IssueFolds as I
 use Rattle.registry_credential_state.specs.CredentialFolds as W
 use Rattle.host_next.specs.ByteFolds.{registryIn, credentialFolded, noState}
 use Rattle.host_credential.specs.CredentialByteFolds.{credentialIn, credentialIncept, ingestCredential, credentialIngest}
 
-module _ (s attempt : List ℕ) (g : RegistryState) (r : (registryIn s ≡ some (viewRegistry g)) × (wellRegistry g ≡ true)) where
-  pub issue : (o : I.Outcome) → o ≡ I.inceptOf g attempt → credentialFolded o ≡ credentialIncept s attempt
-  unfolding credentialIncept I.inceptOf
-  issue o e = rw (r .0, e, r .1)
+-- bytes that the code finds to be no registry state, and ones that it finds to be one
+module _ (s : List ℕ) (c : Cursor) (t : Bool) (b : c ≡ starting) (r : Read Registry) (e : r ≡ readRegistry s c) (f : t ≡ (r .next .ok && eqb (r .next .at) (length s))) where
+  pub registry-none : t ≡ false → registryIn s ≡ none
+  unfolding registryIn
+  registry-none h = rw (← b, ← e, ← f, h)
 
-  pub revocation : (k : List ℕ) (w : CredentialState) → (credentialIn k ≡ some w) × (wellCredential w ≡ true) → (o : I.Outcome) → o ≡ W.ingestOf g w attempt → credentialFolded o ≡ credentialIngest s k attempt
-  unfolding credentialIngest W.ingestOf
-  revocation k w q o e = rw (r .0, q .0, e, r .1, q .1)
+  pub registry-some : t ≡ true → registryIn s ≡ some (r .value)
+  unfolding registryIn
+  registry-some h = rw (← b, ← e, ← f, h)
+
+module _ (s attempt : List ℕ) (g : Registry) (r : registryIn s ≡ some g) where
+  pub issue : (o : I.Outcome) → o ≡ I.inceptIf true g attempt → credentialFolded o ≡ credentialIncept s attempt
+  unfolding credentialIncept
+  issue o e = rw (r, e)
+
+  pub revocation : (k : List ℕ) (w : CredentialState) → credentialIn k ≡ some w → (o : I.Outcome) → o ≡ W.ingestIf true g w attempt → credentialFolded o ≡ credentialIngest s k attempt
+  unfolding credentialIngest
+  revocation k w q o e = rw (r, q, e)
 
 pub revocation-none : (s k attempt : List ℕ) (x y : Bool) → (x ≡ false → registryIn s ≡ none) → (y ≡ false → credentialIn k ≡ none) → (x && y) ≡ false → credentialIngest s k attempt ≡ noState
 unfolding credentialIngest

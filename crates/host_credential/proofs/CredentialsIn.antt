@@ -2,7 +2,7 @@
 --     credential-is                    bytes are a credential state exactly when they are its layout and it is within the limits
 --     credential-none, credential-some bytes that the code finds to be no credential state, and ones that it finds to be one
 use Prim.Native.Nat.{ℕ}
-use mathlib.Core.Path.{_≡_, ap, sym, _∙_}
+use mathlib.Core.Path.{_≡_}
 use mathlib.Core.Bool.{Bool, true, false, _&&_}
 use mathlib.Core.List.{List}
 use mathlib.Core.Logic.{_↔_}
@@ -10,14 +10,12 @@ use mathlib.Core.Option.{none, some}
 use lib.Dec.{eqb}
 use lib.ListN.{length}
 use Rattle.laws.specs.Number.{Bytes}
-use Rattle.laws.proofs.Tests.{and-left}
 use Rattle.codec_cursor.specs.declared.cursor.Cursor.{Cursor}
-use Rattle.codec_cursor.specs.Readers.{Read, starting}
-use Rattle.registry_state.specs.States.{credentialBytes, goodCredential, readCredential, viewCredentialRead, wellCredential}
+use Rattle.codec_cursor.specs.Readers.{starting}
+use Rattle.registry_state.specs.States.{credentialBytes, goodCredential, readCredential, viewCredentialRead}
 use Rattle.registry_state.specs.declared.state.CredentialState.{CredentialState}
 use Rattle.registry_state.specs.declared.state.CredentialRead.{CredentialRead}
 use Rattle.registry_state.proofs.CodesState.{codes-credential}
-use Rattle.ledger_image_rows_check.proofs.RowChecks.{row-read}
 use Rattle.host_next.proofs.StatesIn.{whole-is}
 use Rattle.host_credential.specs.CredentialByteFolds.{credentialIn}
 
@@ -30,8 +28,6 @@ module _ (s : List ℕ) (c : Cursor) (t : Bool) (b : c ≡ starting) (r : Creden
   unfolding credentialIn
   credential-none h = rw (← b, ← e, ← f, h)
 
-  pub credential-some : t ≡ true → (credentialIn s ≡ some (r .value)) × (wellCredential (r .value) ≡ true)
+  pub credential-some : t ≡ true → credentialIn s ≡ some (r .value)
   unfolding credentialIn
-  credential-some h =
-      let o : readCredential s c .next .ok ≡ true = ap (λ (x : Read CredentialState). x .next .ok) (sym e) ∙ and-left (r .next .ok) _ (sym f ∙ h) in
-      (rw (← b, ← e, ← f, h), ap (λ (x : Read CredentialState). wellCredential (x .value)) e ∙ row-read s c o .well)
+  credential-some h = rw (← b, ← e, ← f, h)

@@ -1,12 +1,13 @@
-// An iss or bis, and a rev or brv, under the registry whose state is handed in. The next state's bytes go to the start of `next`.
+// An iss or bis, and a rev or brv, under the registry whose state is handed in. Its backers stay in its bytes. The next state's bytes go to the start of `next`.
 use codec_cursor::cursor::Cursor;
 use host_next::credential_next::leave_credential;
 use host_parts::part::is_whole;
 use host_parts::part::malformed;
-use registry_credential_state::credential_state::ingest;
-use registry_issue::credential_state::incept;
+use registry_credential_state::credential_state::ingest_managed;
+use registry_issue::credential_state::incept_managed;
+use registry_management::management::backing_in;
+use registry_management::management::read_management;
 use registry_state::state::CredentialState;
-use registry_state::state::RegistryState;
 ghost use mathlib.Core.Path.{_≡_};
 ghost use Rattle.host_next.specs.ByteFolds.{called, callOf};
 ghost use Rattle.host_credential.specs.CredentialByteFolds.{credentialIncept, credentialIngest};
@@ -20,11 +21,13 @@ pub fn credential_incept(
 ) -> u8
     ensures { λ r. ⌜ called r (now (report .exit)) (now (next .exit)) ≡ callOf (credentialIncept (now (registry .entry)) (now (attempt .entry))) (now (next .entry)) ⌝ }
 {
-    let g = RegistryState::read(Cursor::start(), registry);
+    let g = read_management(Cursor::start(), registry);
     if !is_whole(g.next, registry) {
         return malformed(report);
     }
-    leave_credential(incept(g.value, attempt), next, report)
+    let backers = backing_in(registry, g.backers);
+    let o = incept_managed(true, g.value, backers, attempt);
+    leave_credential(o, next, report)
 }
 
 // A rev or brv.
@@ -37,10 +40,12 @@ pub fn credential_ingest(
 ) -> u8
     ensures { λ r. ⌜ called r (now (report .exit)) (now (next .exit)) ≡ callOf (credentialIngest (now (registry .entry)) (now (credential .entry)) (now (attempt .entry))) (now (next .entry)) ⌝ }
 {
-    let g = RegistryState::read(Cursor::start(), registry);
+    let g = read_management(Cursor::start(), registry);
     let w = CredentialState::read(Cursor::start(), credential);
     if !(is_whole(g.next, registry) & is_whole(w.next, credential)) {
         return malformed(report);
     }
-    leave_credential(ingest(g.value, w.value, attempt), next, report)
+    let backers = backing_in(registry, g.backers);
+    let o = ingest_managed(true, g.value, backers, w.value, attempt);
+    leave_credential(o, next, report)
 }

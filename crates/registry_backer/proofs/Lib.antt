@@ -1,1 +1,2 @@
 pub mod AuthorityLaws
+pub mod BackedLaws

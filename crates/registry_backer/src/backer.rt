@@ -112,7 +112,8 @@ pub fn enough_receipts(s: &[u8], signatures: Counted, backers: usize, toad: Toad
 pub fn backed_by(s: &[u8], signatures: Counted, backers: Backing, toad: Toad) -> Answer
     ensures { λ r. ⌜ ((l : List BasicPrefix) → Backs backers l → r ≡ backedBy (toad .0) l (signaturesIn (now (s .entry)) signatures)) ⌝ }
 {
-    let members = backer_set(backers.members);
+    let repeat = backers.members;
+    let members = backer_set(repeat);
     if !accepts(members) {
         return members;
     }

@@ -1,7 +1,7 @@
 -- The fold of a credential's revocation (docs/RULES.md, "Orders", "Next states").
 use Prim.Native.Nat.{ℕ}
 use mathlib.Core.List.{List, [], _∷_}
-use mathlib.Core.Bool.{not, cond, _&&_}
+use mathlib.Core.Bool.{Bool, not, cond, _&&_}
 use Rattle.cesr.specs.Primitives.{eqSaid}
 use Rattle.cesr.specs.declared.primitive.Said.{Said}
 use Rattle.events_tel.specs.TelEvents.{Event, snOne}
@@ -77,6 +77,8 @@ ingestDecoded g w malformed = record { answer = Rejected Malformed; state = w }
 ingestDecoded g w (decoded m) = ingestMessage g w m
 
 -- 1 before everything, of both states that are handed in too
+abbrev pub ingestIf : Bool → Registry → CredentialState → List ℕ → Outcome
+ingestIf well g w s = cond well (ingestDecoded g w (decodeOf s)) (record { answer = Rejected Malformed; state = w })
+
 unfoldable pub ingestOf : RegistryState → CredentialState → List ℕ → Outcome
-ingestOf g w s =
-    cond (wellRegistry g && wellCredential w) (ingestDecoded (viewRegistry g) w (decodeOf s)) (record { answer = Rejected Malformed; state = w })
+ingestOf g w s = ingestIf (wellRegistry g && wellCredential w) (viewRegistry g) w s

@@ -2,81 +2,125 @@
 use cesr::number::Sn;
 use cesr::primitive::Said;
 use events_tel::tel::Kind;
-use registry_answer::answer::accept_if;
 use registry_answer::answer::accepts;
-use registry_answer::answer::or_else;
 use registry_authentication::issuer::authenticate_issuer;
 use registry_authentication::issuer::message_anchored;
 use registry_backer::backer::authenticate_backer;
-use registry_backer::backer::is_backerless;
 use registry_backer::backer::names_registry;
 use registry_error::error::Answer;
 use registry_error::error::RegistryRejection;
 use registry_issue::credential_state::CredentialOutcome;
 use registry_issue::credential_state::refused;
+use registry_management::management::Backing;
+use registry_management::management::Management;
+use registry_management::management::backing_of;
+use registry_management::management::management_of;
 use registry_state::state::CredentialState;
 use registry_state::state::RegistryState;
 use registry_transition::transition::transition;
 use registry_wire::attempt::Attempt;
 ghost use mathlib.Core.Path.{_≡_};
+ghost use mathlib.Core.List.{List};
 ghost use Rattle.cesr.specs.Primitives.{saidAt};
 ghost use Rattle.events_tel.specs.TelEvents.{viewEvent};
-ghost use Rattle.registry_state.specs.States.{viewRegistry};
+ghost use Rattle.cesr.specs.declared.primitive.BasicPrefix.{BasicPrefix};
+ghost use Rattle.registry_management.specs.Managements.{viewManagement, Backs};
 ghost use Rattle.registry_wire.specs.Attempts.{viewAttempt};
 ghost use Rattle.registry_authentication.specs.Issuers.{Anchored};
 ghost use Rattle.registry_issue.specs.IssueFolds.{viewOutcome};
-ghost use Rattle.registry_credential_state.specs.CredentialFolds.{revAnswer, brvAnswer, ingestEvent, ingestMessage, ingestOf};
+ghost use Rattle.registry_credential_state.specs.CredentialFolds.{revAnswer, brvAnswer, ingestEvent, ingestMessage, ingestIf, ingestOf};
 
-// A rev's checks behind its kind.
-fn rev_answer(g: RegistryState, w: CredentialState, a: Attempt, s: &[u8]) -> Answer
+// A rev's checks behind its kind. Each that refuses is returned, since an answer is copied wherever it is joined to another.
+fn rev_answer(g: Management, w: CredentialState, a: Attempt, s: &[u8]) -> Answer
     requires { ⌜ Anchored (now s) a ⌝ }
-    ensures { λ r. ⌜ r ≡ revAnswer (viewRegistry g) w (saidAt (now (s .entry)) (a .event .said)) (saidAt (now (s .entry)) (a .event .credential)) (saidAt (now (s .entry)) (a .event .registry)) (saidAt (now (s .entry)) (a .event .prior)) (viewAttempt (now (s .entry)) a) ⌝ }
+    ensures { λ r. ⌜ ((l : List BasicPrefix) → r ≡ revAnswer (viewManagement g l) w (saidAt (now (s .entry)) (a .event .said)) (saidAt (now (s .entry)) (a .event .credential)) (saidAt (now (s .entry)) (a .event .registry)) (saidAt (now (s .entry)) (a .event .prior)) (viewAttempt (now (s .entry)) a)) ⌝ }
 {
     let one = Sn { hi: 0, lo: 1 };
-    let registry = Said::read(s, a.event.registry);
+    let id = g.id.0;
+    if !id.same_at(s, a.event.registry) {
+        return Answer::Rejected(RegistryRejection::InconsistentRegistry);
+    }
+    if !g.configs.no_backers() {
+        return Answer::Rejected(RegistryRejection::SimpleEventOnBackerRegistry);
+    }
     let credential = Said::read(s, a.event.credential);
-    let prior = Said::read(s, a.event.prior);
-    let routed = accept_if(registry.same(g.id), RegistryRejection::InconsistentRegistry);
-    let flavor = accept_if(
-        is_backerless(g),
-        RegistryRejection::SimpleEventOnBackerRegistry,
+    let anchor = authenticate_issuer(
+        s,
+        a.event.said,
+        a.sources,
+        a.source,
+        a.anchor,
+        a.evidence,
+        a.issuer,
+        a.carried,
+        g.issuer,
+        credential,
+        one,
     );
-    let anchor = authenticate_issuer(a, s, g.issuer, credential, one);
-    let last = transition(w, credential, prior);
-    or_else(
-        routed,
-        or_else(flavor, or_else(anchor, or_else(last, Answer::Accepted))),
-    )
+    if !accepts(anchor) {
+        return anchor;
+    }
+    transition(w, credential, Said::read(s, a.event.prior))
 }
 
 // A brv's checks behind its kind.
-fn brv_answer(g: RegistryState, w: CredentialState, a: Attempt, s: &[u8]) -> Answer
+fn brv_answer(
+    g: Management,
+    backers: Backing,
+    w: CredentialState,
+    a: Attempt,
+    s: &[u8],
+) -> Answer
     requires { ⌜ Anchored (now s) a ⌝ }
-    ensures { λ r. ⌜ r ≡ brvAnswer (viewRegistry g) w (saidAt (now (s .entry)) (a .event .said)) (saidAt (now (s .entry)) (a .event .credential)) (saidAt (now (s .entry)) (a .event .prior)) (a .event .seal) (viewAttempt (now (s .entry)) a) ⌝ }
+    ensures { λ r. ⌜ ((l : List BasicPrefix) → Backs backers l → r ≡ brvAnswer (viewManagement g l) w (saidAt (now (s .entry)) (a .event .said)) (saidAt (now (s .entry)) (a .event .credential)) (saidAt (now (s .entry)) (a .event .prior)) (a .event .seal) (viewAttempt (now (s .entry)) a)) ⌝ }
 {
     let one = Sn { hi: 0, lo: 1 };
-    let credential = Said::read(s, a.event.credential);
-    let prior = Said::read(s, a.event.prior);
     let e = a.event;
     let seal = e.seal;
-    let routed = accept_if(
-        names_registry(seal, g.id),
-        RegistryRejection::InconsistentRegistry,
+    if !names_registry(seal, g.id) {
+        return Answer::Rejected(RegistryRejection::InconsistentRegistry);
+    }
+    if g.configs.no_backers() {
+        return Answer::Rejected(RegistryRejection::BackedEventOnBackerlessRegistry);
+    }
+    let credential = Said::read(s, a.event.credential);
+    let anchor = message_anchored(
+        s,
+        a.event.said,
+        a.sources,
+        a.source,
+        a.anchor,
+        g.issuer,
+        credential,
+        one,
     );
-    let flavor = accept_if(
-        !is_backerless(g),
-        RegistryRejection::BackedEventOnBackerlessRegistry,
+    if !accepts(anchor) {
+        return anchor;
+    }
+    let backed = authenticate_backer(
+        s,
+        a.signatures,
+        g,
+        backers,
+        seal,
+        a.evidence,
+        a.management,
     );
-    let anchor = message_anchored(a, s, g.issuer, credential, one);
-    let backed = authenticate_backer(s, a.signatures, g, seal, a.evidence, a.management);
-    let last = transition(w, credential, prior);
-    let late = or_else(anchor, or_else(backed, or_else(last, Answer::Accepted)));
-    or_else(routed, or_else(flavor, late))
+    if !accepts(backed) {
+        return backed;
+    }
+    transition(w, credential, Said::read(s, a.event.prior))
 }
 
-fn ingest_event(g: RegistryState, w: CredentialState, a: Attempt, s: &[u8]) -> Answer
+fn ingest_event(
+    g: Management,
+    backers: Backing,
+    w: CredentialState,
+    a: Attempt,
+    s: &[u8],
+) -> Answer
     requires { ⌜ Anchored (now s) a ⌝ }
-    ensures { λ r. ⌜ r ≡ ingestEvent (viewRegistry g) w (viewEvent (now (s .entry)) (a .event)) (viewAttempt (now (s .entry)) a) ⌝ }
+    ensures { λ r. ⌜ ((l : List BasicPrefix) → Backs backers l → r ≡ ingestEvent (viewManagement g l) w (viewEvent (now (s .entry)) (a .event)) (viewAttempt (now (s .entry)) a)) ⌝ }
 {
     let e = a.event;
     let kind = e.kind;
@@ -86,19 +130,24 @@ fn ingest_event(g: RegistryState, w: CredentialState, a: Attempt, s: &[u8]) -> A
         Kind::Iss => Answer::Rejected(RegistryRejection::NotCredentialTransition),
         Kind::Rev => rev_answer(g, w, a, s),
         Kind::Bis => Answer::Rejected(RegistryRejection::NotCredentialTransition),
-        Kind::Brv => brv_answer(g, w, a, s),
+        Kind::Brv => brv_answer(g, backers, w, a, s),
     }
 }
 
-fn ingest_outcome(g: RegistryState, w: CredentialState, a: Attempt, s: &[u8]) -> CredentialOutcome
+fn ingest_outcome(
+    g: Management,
+    backers: Backing,
+    w: CredentialState,
+    a: Attempt,
+    s: &[u8],
+) -> CredentialOutcome
     requires { ⌜ Anchored (now s) a ⌝ }
-    ensures { λ r. ⌜ viewOutcome r ≡ ingestMessage (viewRegistry g) w (viewAttempt (now (s .entry)) a) ⌝ }
+    ensures { λ r. ⌜ ((l : List BasicPrefix) → Backs backers l → viewOutcome r ≡ ingestMessage (viewManagement g l) w (viewAttempt (now (s .entry)) a)) ⌝ }
 {
-    let held = accept_if(
-        w.registry.same(g.id),
-        RegistryRejection::InconsistentRegistry,
-    );
-    let answer = or_else(held, ingest_event(g, w, a, s));
+    if !w.registry.same(g.id) {
+        return refused(w, RegistryRejection::InconsistentRegistry);
+    }
+    let answer = ingest_event(g, backers, w, a, s);
     if accepts(answer) {
         let registry = w.registry;
         let credential = w.credential;
@@ -114,13 +163,28 @@ fn ingest_outcome(g: RegistryState, w: CredentialState, a: Attempt, s: &[u8]) ->
     CredentialOutcome { answer, state: w }
 }
 
+// The next event of a credential under a registry in two parts, whether both states are well formed or not.
+pub fn ingest_managed(
+    well: bool,
+    g: Management,
+    backers: Backing,
+    w: CredentialState,
+    s: &[u8],
+) -> CredentialOutcome
+    ensures { λ r. ⌜ ((l : List BasicPrefix) → Backs backers l → viewOutcome r ≡ ingestIf well (viewManagement g l) w (now (s .entry))) ⌝ }
+{
+    let d = Attempt::decode(s);
+    if well & d.ok {
+        return ingest_outcome(g, backers, w, d.attempt, s);
+    }
+    refused(w, RegistryRejection::Malformed)
+}
+
 // The next event of a credential: a revocation.
 pub fn ingest(g: RegistryState, w: CredentialState, s: &[u8]) -> CredentialOutcome
     ensures { λ r. ⌜ viewOutcome r ≡ ingestOf g w (now (s .entry)) ⌝ }
 {
-    let d = Attempt::decode(s);
-    if (g.well_formed() & w.well_formed()) & d.ok {
-        return ingest_outcome(g, w, d.attempt, s);
-    }
-    refused(w, RegistryRejection::Malformed)
+    let well = g.well_formed() & w.well_formed();
+    let backers = backing_of(g.backers);
+    ingest_managed(well, management_of(g), backers, w, s)
 }

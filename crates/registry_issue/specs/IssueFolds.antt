@@ -1,7 +1,7 @@
 -- The fold of a credential's issue, and the outcome that the folds of a credential share (docs/RULES.md, "Orders", "Next states").
 use Prim.Native.Nat.{ℕ}
 use mathlib.Core.List.{List, [], _∷_}
-use mathlib.Core.Bool.{not, cond}
+use mathlib.Core.Bool.{Bool, not, cond}
 use Rattle.cesr.specs.Primitives.{eqSaid}
 use Rattle.cesr.specs.declared.primitive.Said.{Said}
 use Rattle.events_tel.specs.TelEvents.{Event, snZero}
@@ -71,8 +71,11 @@ inceptDecoded g malformed = record { answer = Rejected Malformed; state = noCred
 inceptDecoded g (decoded m) = inceptMessage g m
 
 -- 1 before everything, of the state that is handed in too
+abbrev pub inceptIf : Bool → Registry → List ℕ → Outcome
+inceptIf well g s = cond well (inceptDecoded g (decodeOf s)) (record { answer = Rejected Malformed; state = noCredential })
+
 unfoldable pub inceptOf : RegistryState → List ℕ → Outcome
-inceptOf g s = cond (wellRegistry g) (inceptDecoded (viewRegistry g) (decodeOf s)) (record { answer = Rejected Malformed; state = noCredential })
+inceptOf g s = inceptIf (wellRegistry g) (viewRegistry g) s
 
 -- what the code's struct stands for
 abbrev pub viewOutcome : CredentialOutcome → Outcome

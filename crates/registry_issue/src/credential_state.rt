@@ -3,26 +3,29 @@ use cesr::number::Sn;
 use cesr::primitive::Said;
 use events_tel::tel::Kind;
 use events_tel::tel::TelEvent;
-use registry_answer::answer::accept_if;
 use registry_answer::answer::accepts;
-use registry_answer::answer::or_else;
 use registry_authentication::issuer::authenticate_issuer;
 use registry_authentication::issuer::message_anchored;
 use registry_backer::backer::authenticate_backer;
-use registry_backer::backer::is_backerless;
 use registry_error::error::Answer;
 use registry_error::error::RegistryRejection;
+use registry_management::management::Backing;
+use registry_management::management::Management;
+use registry_management::management::backing_of;
+use registry_management::management::management_of;
 use registry_state::state::CredentialState;
 use registry_state::state::RegistryState;
 use registry_wire::attempt::Attempt;
 ghost use mathlib.Core.Path.{_≡_};
+ghost use mathlib.Core.List.{List};
 ghost use Rattle.cesr.specs.Primitives.{saidAt};
 ghost use Rattle.events_tel.specs.TelEvents.{viewEvent};
-ghost use Rattle.registry_state.specs.States.{viewRegistry};
+ghost use Rattle.cesr.specs.declared.primitive.BasicPrefix.{BasicPrefix};
+ghost use Rattle.registry_management.specs.Managements.{viewManagement, Backs};
 ghost use Rattle.registry_wire.specs.Attempts.{viewAttempt};
 ghost use Rattle.registry_error.specs.declared.error.Answer.the-variants.{Rejected};
 ghost use Rattle.registry_authentication.specs.Issuers.{Anchored};
-ghost use Rattle.registry_issue.specs.IssueFolds.{issAnswer, bisAnswer, inceptEvent, issued, inceptMessage, inceptOf, viewOutcome};
+ghost use Rattle.registry_issue.specs.IssueFolds.{issAnswer, bisAnswer, inceptEvent, issued, inceptMessage, inceptIf, inceptOf, viewOutcome};
 
 // An answer, and the state behind it: the next one, or after a refusal the one that was handed in. Where none is handed in it is blank.
 pub struct CredentialOutcome {
@@ -30,49 +33,70 @@ pub struct CredentialOutcome {
     pub state: CredentialState,
 }
 
-// An iss's checks behind its kind.
-fn iss_answer(g: RegistryState, a: Attempt, s: &[u8]) -> Answer
+// An iss's checks behind its kind. Each that refuses is returned, since an answer is copied wherever it is joined to another.
+fn iss_answer(g: Management, a: Attempt, s: &[u8]) -> Answer
     requires { ⌜ Anchored (now s) a ⌝ }
-    ensures { λ r. ⌜ r ≡ issAnswer (viewRegistry g) (saidAt (now (s .entry)) (a .event .said)) (saidAt (now (s .entry)) (a .event .credential)) (saidAt (now (s .entry)) (a .event .registry)) (viewAttempt (now (s .entry)) a) ⌝ }
+    ensures { λ r. ⌜ ((l : List BasicPrefix) → r ≡ issAnswer (viewManagement g l) (saidAt (now (s .entry)) (a .event .said)) (saidAt (now (s .entry)) (a .event .credential)) (saidAt (now (s .entry)) (a .event .registry)) (viewAttempt (now (s .entry)) a)) ⌝ }
 {
     let zero = Sn { hi: 0, lo: 0 };
-    let registry = Said::read(s, a.event.registry);
+    let id = g.id.0;
+    if !id.same_at(s, a.event.registry) {
+        return Answer::Rejected(RegistryRejection::InconsistentRegistry);
+    }
+    if !g.configs.no_backers() {
+        return Answer::Rejected(RegistryRejection::SimpleEventOnBackerRegistry);
+    }
     let credential = Said::read(s, a.event.credential);
-    let routed = accept_if(registry.same(g.id), RegistryRejection::InconsistentRegistry);
-    let flavor = accept_if(
-        is_backerless(g),
-        RegistryRejection::SimpleEventOnBackerRegistry,
-    );
-    let anchor = authenticate_issuer(a, s, g.issuer, credential, zero);
-    or_else(routed, or_else(flavor, or_else(anchor, Answer::Accepted)))
-}
-
-// A bis's checks behind its kind.
-fn bis_answer(g: RegistryState, a: Attempt, s: &[u8]) -> Answer
-    requires { ⌜ Anchored (now s) a ⌝ }
-    ensures { λ r. ⌜ r ≡ bisAnswer (viewRegistry g) (saidAt (now (s .entry)) (a .event .said)) (saidAt (now (s .entry)) (a .event .credential)) (saidAt (now (s .entry)) (a .event .registry)) (a .event .seal) (viewAttempt (now (s .entry)) a) ⌝ }
-{
-    let zero = Sn { hi: 0, lo: 0 };
-    let registry = Said::read(s, a.event.registry);
-    let credential = Said::read(s, a.event.credential);
-    let e = a.event;
-    let seal = e.seal;
-    let routed = accept_if(registry.same(g.id), RegistryRejection::InconsistentRegistry);
-    let flavor = accept_if(
-        !is_backerless(g),
-        RegistryRejection::BackedEventOnBackerlessRegistry,
-    );
-    let anchor = message_anchored(a, s, g.issuer, credential, zero);
-    let backed = authenticate_backer(s, a.signatures, g, seal, a.evidence, a.management);
-    or_else(
-        routed,
-        or_else(flavor, or_else(anchor, or_else(backed, Answer::Accepted))),
+    authenticate_issuer(
+        s,
+        a.event.said,
+        a.sources,
+        a.source,
+        a.anchor,
+        a.evidence,
+        a.issuer,
+        a.carried,
+        g.issuer,
+        credential,
+        zero,
     )
 }
 
-fn incept_event(g: RegistryState, a: Attempt, s: &[u8]) -> Answer
+// A bis's checks behind its kind.
+fn bis_answer(g: Management, backers: Backing, a: Attempt, s: &[u8]) -> Answer
     requires { ⌜ Anchored (now s) a ⌝ }
-    ensures { λ r. ⌜ r ≡ inceptEvent (viewRegistry g) (viewEvent (now (s .entry)) (a .event)) (viewAttempt (now (s .entry)) a) ⌝ }
+    ensures { λ r. ⌜ ((l : List BasicPrefix) → Backs backers l → r ≡ bisAnswer (viewManagement g l) (saidAt (now (s .entry)) (a .event .said)) (saidAt (now (s .entry)) (a .event .credential)) (saidAt (now (s .entry)) (a .event .registry)) (a .event .seal) (viewAttempt (now (s .entry)) a)) ⌝ }
+{
+    let zero = Sn { hi: 0, lo: 0 };
+    let id = g.id.0;
+    if !id.same_at(s, a.event.registry) {
+        return Answer::Rejected(RegistryRejection::InconsistentRegistry);
+    }
+    if g.configs.no_backers() {
+        return Answer::Rejected(RegistryRejection::BackedEventOnBackerlessRegistry);
+    }
+    let credential = Said::read(s, a.event.credential);
+    let anchor = message_anchored(
+        s,
+        a.event.said,
+        a.sources,
+        a.source,
+        a.anchor,
+        g.issuer,
+        credential,
+        zero,
+    );
+    if !accepts(anchor) {
+        return anchor;
+    }
+    let e = a.event;
+    let seal = e.seal;
+    authenticate_backer(s, a.signatures, g, backers, seal, a.evidence, a.management)
+}
+
+fn incept_event(g: Management, backers: Backing, a: Attempt, s: &[u8]) -> Answer
+    requires { ⌜ Anchored (now s) a ⌝ }
+    ensures { λ r. ⌜ ((l : List BasicPrefix) → Backs backers l → r ≡ inceptEvent (viewManagement g l) (viewEvent (now (s .entry)) (a .event)) (viewAttempt (now (s .entry)) a)) ⌝ }
 {
     let e = a.event;
     let kind = e.kind;
@@ -81,7 +105,7 @@ fn incept_event(g: RegistryState, a: Attempt, s: &[u8]) -> Answer
         Kind::Vrt => Answer::Rejected(RegistryRejection::NotCredentialInception),
         Kind::Iss => iss_answer(g, a, s),
         Kind::Rev => Answer::Rejected(RegistryRejection::NotCredentialInception),
-        Kind::Bis => bis_answer(g, a, s),
+        Kind::Bis => bis_answer(g, backers, a, s),
         Kind::Brv => Answer::Rejected(RegistryRejection::NotCredentialInception),
     }
 }
@@ -109,11 +133,11 @@ fn issued(registry: Said, e: TelEvent, s: &[u8]) -> CredentialState
     }
 }
 
-fn incept_outcome(g: RegistryState, a: Attempt, s: &[u8]) -> CredentialOutcome
+fn incept_outcome(g: Management, backers: Backing, a: Attempt, s: &[u8]) -> CredentialOutcome
     requires { ⌜ Anchored (now s) a ⌝ }
-    ensures { λ r. ⌜ viewOutcome r ≡ inceptMessage (viewRegistry g) (viewAttempt (now (s .entry)) a) ⌝ }
+    ensures { λ r. ⌜ ((l : List BasicPrefix) → Backs backers l → viewOutcome r ≡ inceptMessage (viewManagement g l) (viewAttempt (now (s .entry)) a)) ⌝ }
 {
-    let answer = incept_event(g, a, s);
+    let answer = incept_event(g, backers, a, s);
     if accepts(answer) {
         let first = issued(g.id, a.event, s);
         return CredentialOutcome {
@@ -138,13 +162,22 @@ pub fn refused(w: CredentialState, refusal: RegistryRejection) -> CredentialOutc
     }
 }
 
+// The first event of a credential under a registry in two parts, whether that is well formed or not.
+pub fn incept_managed(well: bool, g: Management, backers: Backing, s: &[u8]) -> CredentialOutcome
+    ensures { λ r. ⌜ ((l : List BasicPrefix) → Backs backers l → viewOutcome r ≡ inceptIf well (viewManagement g l) (now (s .entry))) ⌝ }
+{
+    let d = Attempt::decode(s);
+    if well & d.ok {
+        return incept_outcome(g, backers, d.attempt, s);
+    }
+    refused(CredentialState::none(), RegistryRejection::Malformed)
+}
+
 // The first event of a credential: an issue.
 pub fn incept(g: RegistryState, s: &[u8]) -> CredentialOutcome
     ensures { λ r. ⌜ viewOutcome r ≡ inceptOf g (now (s .entry)) ⌝ }
 {
-    let d = Attempt::decode(s);
-    if g.well_formed() & d.ok {
-        return incept_outcome(g, d.attempt, s);
-    }
-    refused(CredentialState::none(), RegistryRejection::Malformed)
+    let well = g.well_formed();
+    let backers = backing_of(g.backers);
+    incept_managed(well, management_of(g), backers, s)
 }

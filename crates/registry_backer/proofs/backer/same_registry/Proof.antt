@@ -14,7 +14,7 @@ same-requires-3 c κs = search needs
 
 returns : tie.Need-returns
 unfolding sameRegistry
-returns c = rw (c .same3 .ensures, c .before .same2 .ensures, c .before .before .same .ensures)
+returns c k l = rw (c .same3 .ensures, c .before .same2 .ensures, c .before .before .same .ensures)
 
 pub same-registry-spec : {M : Type 1} → statement M
 same-registry-spec = tie.close (tie.spec same-requires same-requires-2 same-requires-3 returns)

@@ -11,7 +11,7 @@ same-requires-2 c κs = search needs
 
 returns : tie.Need-returns
 unfolding standsAt
-returns c = rw (c .same2 .ensures, c .before .same .ensures)
+returns c l = rw (c .same2 .ensures, c .before .same .ensures)
 
 pub stands-at-spec : {M : Type 1} → statement M
 stands-at-spec = tie.close (tie.spec same-requires same-requires-2 returns)

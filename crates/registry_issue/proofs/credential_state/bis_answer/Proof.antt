@@ -1,90 +1,117 @@
 use denote.Ref.{now}
+use mathlib.Core.Path.{_≡_, sym, ap, _∙_}
 use native.Mathlib.Omega.{arith}
+use borrow.Author.Tests.{not-true, not-false}
 use Rattle.cesr.specs.Primitives.{readMatter, saidAt}
-use Rattle.registry_authentication.proofs.AnchorUse.{message-in}
 use Rattle.events_tel.specs.TelEvents.{snZero}
-use Rattle.registry_issue.specs.IssueFolds.{bisAnswer}
-use Rattle.registry_answer.specs.Answers.{firstOf}
+use Rattle.registry_wire.specs.Attempts.{sourcesIn, viewAttempt}
+use Rattle.registry_management.specs.Managements.{viewManagement}
+use Rattle.registry_authentication.proofs.AnchorUse.{message-in}
+use Rattle.registry_issue.proofs.IssueLaws.{bis-routed, bis-flavor, bis-anchor, bis-backed}
 use borrow.Author.Needs.{needs}
 use Rattle.registry_issue.proofs.credential_state.bis_answer.Statement.{statement}
 use Rattle.registry_issue.proofs.credential_state.bis_answer.Tie as tie
 
+same-at-requires : tie.Need-same-at-requires
+same-at-requires c κs = search needs
+
+returns : tie.Need-returns
+returns c l k =
+    let start = c .before .before .before .before in
+    let q = start .args in
+    let s = now (q .s) in
+    let e = q .a .event in
+    let g = viewManagement (q .g) l in
+    let said = saidAt s (e .said) in
+    let credential = saidAt s (e .credential) in
+    let registry = saidAt s (e .registry) in
+    let m = viewAttempt s (q .a) in
+    bis-routed g said credential registry m (e .seal) (sym (c .before .same-at .ensures) ∙ not-true _ (c .if1 .taken))
+
+no-backers-requires : tie.Need-no-backers-requires
+no-backers-requires c κs = search needs
+
+returns-2 : tie.Need-returns-2
+returns-2 c l k =
+    let b2 = c .before .before in
+    let start = b2 .before .before .before .before in
+    let q = start .args in
+    let s = now (q .s) in
+    let e = q .a .event in
+    let g = viewManagement (q .g) l in
+    let said = saidAt s (e .said) in
+    let credential = saidAt s (e .credential) in
+    let registry = saidAt s (e .registry) in
+    let m = viewAttempt s (q .a) in
+    bis-flavor g said credential registry m (e .seal) (sym (b2 .before .same-at .ensures) ∙ not-false _ (b2 .if1 .left)) (sym (c .before .no-backers .ensures) ∙ c .if2 .taken)
+
 read-requires : tie.Need-read-requires
 read-requires c κs = search needs
-
-read-requires-2 : tie.Need-read-requires-2
-read-requires-2 c κs = search needs
-
-same-requires : tie.Need-same-requires
-same-requires c κs = search needs
-
-accept-if-requires : tie.Need-accept-if-requires
-accept-if-requires c κs = search needs
-
-is-backerless-requires : tie.Need-is-backerless-requires
-is-backerless-requires c κs = search needs
-
-accept-if-requires-2 : tie.Need-accept-if-requires-2
-accept-if-requires-2 c κs = search needs
 
 message-anchored-requires : tie.Need-message-anchored-requires
 message-anchored-requires c κs = search needs
 
+accepts-requires : tie.Need-accepts-requires
+accepts-requires c κs = search needs
+
+returns-3 : tie.Need-returns-3
+unfolding sourcesIn
+returns-3 c l k =
+    let b2 = c .before .before in
+    let b4 = b2 .before .before in
+    let b6 = b4 .before .before in
+    let b9 = b6 .before .before .before in
+    let start = b9 .before in
+    let q = start .args in
+    let s = now (q .s) in
+    let e = q .a .event in
+    let g = viewManagement (q .g) l in
+    let said = saidAt s (e .said) in
+    let credential = saidAt s (e .credential) in
+    let registry = saidAt s (e .registry) in
+    let m = viewAttempt s (q .a) in
+    let in-bytes = message-in s (q .a) (q .g .issuer) credential snZero said (λ i. omega (arith, b9 .shared-slice-known .given i)) (start .pre) in
+    bis-anchor g said credential registry m (e .seal) (sym (b6 .before .same-at .ensures) ∙ not-false _ (b6 .if1 .left)) (sym (b4 .before .no-backers .ensures) ∙ b4 .if2 .left) _
+    (rw (b2 .message-anchored .ensures, b2 .before .read .ensures) in-bytes)
+    (sym (c .before .accepts .ensures) ∙ not-true _ (c .if3 .taken))
+
 authenticate-backer-requires : tie.Need-authenticate-backer-requires
 authenticate-backer-requires c κs = search needs
 
-or-else-requires : tie.Need-or-else-requires
-or-else-requires c κs = search needs
-
-or-else-requires-2 : tie.Need-or-else-requires-2
-or-else-requires-2 c κs = search needs
-
-or-else-requires-3 : tie.Need-or-else-requires-3
-or-else-requires-3 c κs = search needs
-
-or-else-requires-4 : tie.Need-or-else-requires-4
-or-else-requires-4 c κs = search needs
-
-returns : tie.Need-returns
-unfolding bisAnswer firstOf
-returns c =
-    let b4 = c .before .before .before .before in
-    let b7 = b4 .before .before .before in
-    let b10 = b7 .before .before .before in
-    let start = b10 .before .before .before .before in
+returns-4 : tie.Need-returns-4
+unfolding sourcesIn
+returns-4 c l k =
+    let b2 = c .before .before in
+    let b4 = b2 .before .before in
+    let b6 = b4 .before .before in
+    let b8 = b6 .before .before in
+    let b11 = b8 .before .before .before in
+    let start = b11 .before in
     let q = start .args in
     let s = now (q .s) in
-    let y = q .a in
-    rw (
-      c .or-else4 .ensures,
-      c .before .or-else3 .ensures,
-      c .before .before .or-else2 .ensures,
-      c .before .before .before .or-else .ensures,
-      b4 .authenticate-backer .ensures (readMatter s (y .issuer)) (y .carried),
-      b4 .before .message-anchored .ensures,
-      b10 .before .read2 .ensures,
-      message-in s y (q .g .issuer) (saidAt s (y .event .credential)) snZero (saidAt s (y .event .said)) (λ i. omega (arith, b10 .before .before .before .shared-slice-known .given i)) (start .pre),
-      b4 .before .before .accept-if2 .ensures,
-      b7 .is-backerless .ensures,
-      b7 .before .accept-if .ensures,
-      b7 .before .before .same .ensures,
-      b10 .before .before .read .ensures,
-    )
+    let e = q .a .event in
+    let g = viewManagement (q .g) l in
+    let said = saidAt s (e .said) in
+    let credential = saidAt s (e .credential) in
+    let registry = saidAt s (e .registry) in
+    let m = viewAttempt s (q .a) in
+    let in-bytes = message-in s (q .a) (q .g .issuer) credential snZero said (λ i. omega (arith, b11 .shared-slice-known .given i)) (start .pre) in
+    bis-backed g said credential registry m (e .seal) (sym (b8 .before .same-at .ensures) ∙ not-false _ (b8 .if1 .left)) (sym (b6 .before .no-backers .ensures) ∙ b6 .if2 .left) (b4 .message-anchored .result) _
+    (rw (b4 .message-anchored .ensures, b4 .before .read .ensures) in-bytes)
+    (sym (b2 .before .accepts .ensures) ∙ not-false _ (b2 .if3 .left))
+    (c .authenticate-backer .ensures (readMatter s (q .a .issuer)) (q .a .carried) l k)
 
 pub bis-answer-spec : {M : Type 1} → statement M
 bis-answer-spec =
     tie.close
     (tie.spec
+    same-at-requires
+    returns
+    no-backers-requires
+    returns-2
     read-requires
-    read-requires-2
-    same-requires
-    accept-if-requires
-    is-backerless-requires
-    accept-if-requires-2
     message-anchored-requires
+    accepts-requires
+    returns-3
     authenticate-backer-requires
-    or-else-requires
-    or-else-requires-2
-    or-else-requires-3
-    or-else-requires-4
-    returns)
+    returns-4)
