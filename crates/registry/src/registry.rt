@@ -8,7 +8,6 @@ use registry_answer::answer::backer_set;
 use registry_answer::answer::or_else;
 use registry_authentication::issuer::authenticate_issuer;
 use registry_backer::backer::enough_receipts;
-use registry_backer::backer::is_backerless;
 use registry_error::error::Answer;
 use registry_error::error::RegistryRejection;
 use registry_inception::registry::RegistryOutcome;
@@ -73,12 +72,24 @@ fn vrt_answer(g: RegistryState, a: Attempt, s: &[u8], backers: Answer) -> Answer
     let prior = Said::read(s, a.event.prior);
     let routed = accept_if(registry.same(g.id), RegistryRejection::InconsistentRegistry);
     let flavor = accept_if(
-        !is_backerless(g),
+        !g.configs.no_backers(),
         RegistryRejection::RotationOnBackerlessRegistry,
     );
     let place = next_sn(g.sn, sn);
     let behind = accept_if(prior.same(g.latest), RegistryRejection::PriorDigestMismatch);
-    let anchor = authenticate_issuer(a, s, g.issuer, registry, sn);
+    let anchor = authenticate_issuer(
+        s,
+        a.event.said,
+        a.sources,
+        a.source,
+        a.anchor,
+        a.evidence,
+        a.issuer,
+        a.carried,
+        g.issuer,
+        registry,
+        sn,
+    );
     let late = or_else(behind, or_else(anchor, or_else(backers, Answer::Accepted)));
     or_else(routed, or_else(flavor, or_else(place, late)))
 }

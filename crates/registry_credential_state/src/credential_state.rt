@@ -64,13 +64,7 @@ fn rev_answer(g: Management, w: CredentialState, a: Attempt, s: &[u8]) -> Answer
 }
 
 // A brv's checks behind its kind.
-fn brv_answer(
-    g: Management,
-    backers: Backing,
-    w: CredentialState,
-    a: Attempt,
-    s: &[u8],
-) -> Answer
+fn brv_answer(g: Management, backers: Backing, w: CredentialState, a: Attempt, s: &[u8]) -> Answer
     requires { ⌜ Anchored (now s) a ⌝ }
     ensures { λ r. ⌜ ((l : List BasicPrefix) → Backs backers l → r ≡ brvAnswer (viewManagement g l) w (saidAt (now (s .entry)) (a .event .said)) (saidAt (now (s .entry)) (a .event .credential)) (saidAt (now (s .entry)) (a .event .prior)) (a .event .seal) (viewAttempt (now (s .entry)) a)) ⌝ }
 {
@@ -97,28 +91,14 @@ fn brv_answer(
     if !accepts(anchor) {
         return anchor;
     }
-    let backed = authenticate_backer(
-        s,
-        a.signatures,
-        g,
-        backers,
-        seal,
-        a.evidence,
-        a.management,
-    );
+    let backed = authenticate_backer(s, a.signatures, g, backers, seal, a.evidence, a.management);
     if !accepts(backed) {
         return backed;
     }
     transition(w, credential, Said::read(s, a.event.prior))
 }
 
-fn ingest_event(
-    g: Management,
-    backers: Backing,
-    w: CredentialState,
-    a: Attempt,
-    s: &[u8],
-) -> Answer
+fn ingest_event(g: Management, backers: Backing, w: CredentialState, a: Attempt, s: &[u8]) -> Answer
     requires { ⌜ Anchored (now s) a ⌝ }
     ensures { λ r. ⌜ ((l : List BasicPrefix) → Backs backers l → r ≡ ingestEvent (viewManagement g l) w (viewEvent (now (s .entry)) (a .event)) (viewAttempt (now (s .entry)) a)) ⌝ }
 {

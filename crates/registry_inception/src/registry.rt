@@ -64,7 +64,16 @@ fn vcp_answer(a: Attempt, s: &[u8], backers: Members) -> Answer
     let flavor = accept_if(!clash, RegistryRejection::NoBackersWithBackers);
     let members = backer_set(MemberSet::check_members(backers));
     let threshold = threshold_fits(toad, count);
-    let anchor = message_anchored(a, s, issuer, said, zero);
+    let anchor = message_anchored(
+        s,
+        a.event.said,
+        a.sources,
+        a.source,
+        a.anchor,
+        issuer,
+        said,
+        zero,
+    );
     let receipts = enough_receipts(s, a.signatures, count, toad);
     let late = or_else(anchor, or_else(receipts, Answer::Accepted));
     or_else(

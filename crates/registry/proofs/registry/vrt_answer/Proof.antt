@@ -1,3 +1,4 @@
+use Rattle.registry_wire.specs.Attempts.{sourcesIn}
 use denote.Ref.{now}
 use native.Mathlib.Omega.{arith}
 use Rattle.cesr.specs.Primitives.{saidAt}
@@ -20,8 +21,8 @@ same-requires c κs = search needs
 accept-if-requires : tie.Need-accept-if-requires
 accept-if-requires c κs = search needs
 
-is-backerless-requires : tie.Need-is-backerless-requires
-is-backerless-requires c κs = search needs
+no-backers-requires : tie.Need-no-backers-requires
+no-backers-requires c κs = search needs
 
 accept-if-requires-2 : tie.Need-accept-if-requires-2
 accept-if-requires-2 c κs = search needs
@@ -57,7 +58,7 @@ or-else-requires-6 : tie.Need-or-else-requires-6
 or-else-requires-6 c κs = search needs
 
 returns : tie.Need-returns
-unfolding vrtAnswer firstOf
+unfolding vrtAnswer firstOf sourcesIn
 returns c =
     let b3 = c .before .before .before in
     let b6 = b3 .before .before .before in
@@ -75,7 +76,7 @@ returns c =
       b3 .or-else3 .ensures,
       b3 .before .or-else2 .ensures,
       b3 .before .before .or-else .ensures,
-      b6 .authenticate-issuer .ensures,
+      b6 .authenticate-issuer .ensures (y .management),
       b15 .read .ensures,
       issuer-in s y (q .g .issuer) (saidAt s (y .event .registry)) (y .event .sn) (saidAt s (y .event .said)) (λ i. omega (arith, b15 .before .before .shared-slice-known .given i)) (start .pre .0),
       b6 .before .accept-if3 .ensures,
@@ -83,7 +84,7 @@ returns c =
       b12 .before .before .read2 .ensures,
       b9 .next-sn .ensures,
       b9 .before .accept-if2 .ensures,
-      b9 .before .before .is-backerless .ensures,
+      b9 .before .before .no-backers .ensures,
       b12 .accept-if .ensures,
       b12 .before .same .ensures,
       b15 .read .ensures,
@@ -98,7 +99,7 @@ vrt-answer-spec =
     read-requires-2
     same-requires
     accept-if-requires
-    is-backerless-requires
+    no-backers-requires
     accept-if-requires-2
     next-sn-requires
     same-requires-2

@@ -1,3 +1,4 @@
+use Rattle.registry_wire.specs.Attempts.{sourcesIn}
 use denote.Ref.{now}
 use Prim.Native.Nat.{min}
 use mathlib.Core.Path.{_≡_}
@@ -69,7 +70,7 @@ or-else-requires-6 : tie.Need-or-else-requires-6
 or-else-requires-6 c κs = search needs
 
 returns : tie.Need-returns
-unfolding vcpAnswer firstOf
+unfolding vcpAnswer firstOf sourcesIn
 returns c =
     let b3 = c .before .before .before in
     let b6 = b3 .before .before .before in
