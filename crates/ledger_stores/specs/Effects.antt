@@ -21,7 +21,7 @@ use Rattle.ledger_step.specs.Steps.Effect.{refuse, newRegistry, setRegistry, ne
 use Rattle.ledger_asked.specs.declared.call.Named.{Named}
 use Rattle.ledger_asked.specs.Names.{decodes}
 use Rattle.ledger_answers.specs.Checks.{askedAnswer, inceptionAnswer, rotationAnswer, issueAnswer, revocationAnswer}
-use Rattle.ledger_next.specs.declared.call.Next.{Next}
+use Rattle.ledger_stores.specs.declared.call.Next.{Next}
 
 -- 1 of bytes that are no attempt, before an effect
 abbrev pub ifRead : List ℕ → Effect → Effect

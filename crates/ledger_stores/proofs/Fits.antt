@@ -27,7 +27,7 @@ use Rattle.ledger_step.proofs.Rules.{Keeps, parts}
 use Rattle.ledger_asked.specs.declared.call.Named.{Named}
 use Rattle.ledger_asked.specs.Names.{namedOf, headNamed, decodes}
 use Rattle.ledger_asked.proofs.RequestLaws.{named-head, asks-nothing}
-use Rattle.ledger_next.specs.Effects.{pairNamed}
+use Rattle.ledger_stores.specs.Effects.{pairNamed}
 
 abbrev pub Fits : Ledger → Named → Effect → Type 0
 Fits l q (refuse r) = Unit {0}

@@ -29,12 +29,12 @@ use Rattle.ledger_step.proofs.Rules.{Keeps, parts}
 use Rattle.ledger_registries.specs.Registries.{noHeld, blank, findRegistry}
 use Rattle.ledger_registries.proofs.RegistryViews.{found-registry, stored-registry}
 use Rattle.ledger_asked.specs.declared.call.Named.{Named}
-use Rattle.ledger_next.specs.declared.call.Next.{Next}
+use Rattle.ledger_stores.specs.declared.call.Next.{Next}
 use Rattle.ledger_asked.specs.Names.{headNamed}
-use Rattle.ledger_next.specs.Effects.{pairNamed, effectNamed, Leaves}
-use Rattle.ledger_next.proofs.EffectLaws.{Found, foundAt, named-effect}
-use Rattle.ledger_next.proofs.Fits.{Fits, effect-fits}
-use Rattle.ledger_next.proofs.Stored.{found-in, put-in, behind-last, behind-seen}
+use Rattle.ledger_stores.specs.Effects.{pairNamed, effectNamed, Leaves}
+use Rattle.ledger_stores.proofs.EffectLaws.{Found, foundAt, named-effect}
+use Rattle.ledger_stores.proofs.Fits.{Fits, effect-fits}
+use Rattle.ledger_stores.proofs.Stored.{found-in, put-in, behind-last, behind-seen}
 
 -- a lent ledger, part by part
 lent : (gs : List RegistryState) (m : ℕ) (ws : List CredentialState) (n : ℕ) (l : Ledger) → length gs ≡ l .registrySlots → m ≡ l .registryCount → map heldOf (take m gs) ≡ l .registries → length ws ≡ l .rowSlots → n ≡ l .rowCount → take n ws ≡ l .rows → lentLedger gs m ws n ≡ l

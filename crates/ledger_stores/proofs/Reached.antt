@@ -20,14 +20,14 @@ use Rattle.ledger_step.specs.Steps.Effect.{refuse, newRegistry, setRegistry, ne
 use Rattle.ledger_rows.specs.Rows.{rowAt, findAt}
 use Rattle.ledger_registries.specs.Registries.{noHeld, blank, findRegistry}
 use Rattle.ledger_asked.specs.declared.call.Named.{Named}
-use Rattle.ledger_next.specs.declared.call.Next.{Next}
+use Rattle.ledger_stores.specs.declared.call.Next.{Next}
 use Rattle.ledger_asked.specs.Names.{headNamed}
-use Rattle.ledger_next.specs.Effects.{pairNamed, effectNamed, Leaves}
-use Rattle.ledger_next.proofs.Fits.{Fits, effect-fits}
-use Rattle.ledger_next.proofs.Stored.{place-absent}
-use Rattle.ledger_next.proofs.LentStep as step
-use Rattle.ledger_apply.specs.declared.apply.Applied.{Applied}
-use Rattle.ledger_apply.specs.Applies.{appliedOf, Lent, lent, Stores}
+use Rattle.ledger_stores.specs.Effects.{pairNamed, effectNamed, Leaves}
+use Rattle.ledger_stores.proofs.Fits.{Fits, effect-fits}
+use Rattle.ledger_stores.proofs.Stored.{place-absent}
+use Rattle.ledger_stores.proofs.LentStep as step
+use Rattle.ledger_stores.specs.declared.call.Applied.{Applied}
+use Rattle.ledger_stores.specs.Applies.{appliedOf, Lent, lent, Stores}
 
 pub record Done (gs : List RegistryState) (m : ℕ) (ws : List CredentialState) (n : ℕ) (s : List ℕ) (gs′ : List RegistryState) (ws′ : List CredentialState) (r : Applied) : Type 0 where
   pub answer : r .answer ≡ stepOf (lentLedger gs m ws n) s .answer

@@ -10,8 +10,8 @@ use Rattle.ledger_step.specs.Steps.{Effect, heldNow}
 use Rattle.ledger_step.specs.Steps.Effect.{refuse, newRegistry, setRegistry, newRow, setRow}
 use Rattle.ledger_rows.specs.Rows.{findAt}
 use Rattle.ledger_registries.specs.Registries.{findRegistry}
-use Rattle.ledger_next.specs.declared.call.Next.{Next}
-use Rattle.ledger_apply.specs.declared.apply.Applied.{Applied}
+use Rattle.ledger_stores.specs.declared.call.Next.{Next}
+use Rattle.ledger_stores.specs.declared.call.Applied.{Applied}
 
 abbrev pub appliedOf : Next → Applied
 appliedOf x = record { answer = x .answer; «registry_count» = x .«registry_count»; «row_count» = x .«row_count» }

@@ -36,7 +36,7 @@ use Rattle.ledger_asked.specs.declared.call.Named.{Named}
 use Rattle.ledger_asked.specs.Names.{namedOf, headNamed, isDecoded, decodes}
 use Rattle.ledger_asked.proofs.RequestLaws.{named-head, asks-nothing}
 use Rattle.ledger_answers.specs.Checks.{askedAnswer, inceptionAnswer, rotationAnswer, issueAnswer, revocationAnswer}
-use Rattle.ledger_next.specs.Effects.{inceptionNamed, rotationNamed, issueNamed, revocationNamed, pairNamed, kindEffect, effectNamed}
+use Rattle.ledger_stores.specs.Effects.{inceptionNamed, rotationNamed, issueNamed, revocationNamed, pairNamed, kindEffect, effectNamed}
 
 -- ---- a request that was read: the refusal is one of those that are checked before every fold, or the message is the one that was read
 abbrev ReadFrom : List ℕ → Request → Type 0
