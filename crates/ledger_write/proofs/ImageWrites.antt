@@ -25,9 +25,9 @@ use Rattle.ledger_step.specs.Ledgers.{Ledger, heldOf, lentLedger, sound}
 use Rattle.ledger_step.proofs.Rules.{parts}
 use Rattle.ledger_image.specs.Images.{stateOf, statesOf, ledgerBytes, imageBytes, registrySection, credentialSection, registrySize, Written, writtenOf}
 use Rattle.ledger_image.proofs.ImageLength.{length-wide, length-image}
-use Rattle.ledger_registry_image.specs.RegistrySections.{sectionOf}
-use Rattle.ledger_row_image.specs.RowImages.{writtenRows}
-use Rattle.ledger_row_image.proofs.RowSections.{written-section}
+use Rattle.ledger_sections.specs.RegistrySections.{sectionOf}
+use Rattle.ledger_sections.specs.RowImages.{writtenRows}
+use Rattle.ledger_sections.proofs.RowSections.{written-section}
 use Rattle.ledger_write.specs.Writes.{imageSize, answerOf, viewWritten, withSections}
 use Rattle.ledger_write.specs.declared.write.Written as Code
 

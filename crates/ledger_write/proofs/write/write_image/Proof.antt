@@ -52,7 +52,7 @@ use Rattle.ledger_step.specs.Ledgers.{lentLedger, sound}
 use Rattle.ledger_image.specs.Images.{writtenOf}
 use Rattle.ledger_step.proofs.Relend.{Kept, relends, backs}
 use Rattle.ledger_step.proofs.Turns.{fails}
-use Rattle.ledger_row_image.specs.RowImages.{writtenRows}
+use Rattle.ledger_sections.specs.RowImages.{writtenRows}
 use Rattle.ledger_write.specs.Writes.{viewWritten}
 use Rattle.ledger_write.specs.declared.write.Written.{Written as Answer}
 use Rattle.ledger_write.proofs.PartLent.{KeptPart, part-lends, part-backs, byte-start}

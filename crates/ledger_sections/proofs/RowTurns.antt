@@ -27,7 +27,7 @@ use Rattle.registry_state.specs.declared.state.CredentialState.{CredentialState
 use Rattle.registry_state.specs.declared.state.CredentialRead.{CredentialRead}
 use Rattle.registry_state.proofs.StateLoops.{length-credential}
 use Rattle.ledger_image.specs.Images.{wideBytes, credentialSection}
-use Rattle.ledger_row_image.specs.RowImages.{writtenRows, rowsFrom}
+use Rattle.ledger_sections.specs.RowImages.{writtenRows, rowsFrom}
 
 length-rows : (xs : List CredentialState) → length (joined credentialBytes xs) ≡ 115 * length xs
 unfolding joined

@@ -20,8 +20,8 @@ use Rattle.laws.proofs.Number.{length-digits}
 use Rattle.laws.proofs.Room.{put-sets, put-none, length-put, sets-append}
 use Rattle.registry_state.specs.States.{viewRegistry, registryBytes}
 use Rattle.registry_state.specs.declared.state.RegistryState.{RegistryState}
-use Rattle.ledger_registry_image.specs.RegistrySections.{sectionOf}
-use Rattle.ledger_registry_image.proofs.SectionSizes.{blank, bytesOf, bytes-none, bytes-more, sized, sized-more, sized-all, used, section-of}
+use Rattle.ledger_sections.specs.RegistrySections.{sectionOf}
+use Rattle.ledger_sections.proofs.SectionSizes.{blank, bytesOf, bytes-none, bytes-more, sized, sized-more, sized-all, used, section-of}
 
 pub head-room : (size n r : ℕ) (out last : List ℕ) → size ≤ length out → r ≡ n → last ≡ put out 0 (digits 2 r) → (r ≡ cond (leb size (length out)) n 0) × (last ≡ cond (leb size (length out)) (put out 0 (digits 2 n)) out)
 head-room size n r out last h e f = (rw (le-leb size (length out) h) e, rw (le-leb size (length out) h, ← e) f)

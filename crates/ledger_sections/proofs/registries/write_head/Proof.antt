@@ -1,7 +1,7 @@
 use borrow.Author.Needs.{needs}
-use Rattle.ledger_registry_image.proofs.SectionWrites.{head-room, head-full}
-use Rattle.ledger_registry_image.proofs.registries.write_head.Statement.{statement}
-use Rattle.ledger_registry_image.proofs.registries.write_head.Tie as tie
+use Rattle.ledger_sections.proofs.SectionWrites.{head-room, head-full}
+use Rattle.ledger_sections.proofs.registries.write_head.Statement.{statement}
+use Rattle.ledger_sections.proofs.registries.write_head.Tie as tie
 
 section-count-requires : tie.Need-section-count-requires
 section-count-requires c κs = search needs

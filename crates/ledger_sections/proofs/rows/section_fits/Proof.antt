@@ -4,8 +4,8 @@ use Prim.Native.Nat.{ℕ, _+_, _-_, _*_, _/_, _<_, _≤_}
 use native.Mathlib.Omega.{arith}
 use borrow.Author.Tests.{le-leb, lt-leb, leb-true, leb-false}
 use lib.Dec.{leb}
-use Rattle.ledger_row_image.proofs.row_image.section_fits.Statement.{statement}
-use Rattle.ledger_row_image.proofs.row_image.section_fits.Tie as tie
+use Rattle.ledger_sections.proofs.rows.section_fits.Statement.{statement}
+use Rattle.ledger_sections.proofs.rows.section_fits.Tie as tie
 
 -- there is no room for the count
 too-short : (n held room : ℕ) → room < 2 → false ≡ (leb n held && leb (2 + 115 * n) room)

@@ -26,7 +26,7 @@ use Rattle.registry_state.specs.declared.state.RegistryState.{RegistryState}
 use Rattle.ledger_step.specs.Ledgers.{heldOf}
 use Rattle.ledger_step.specs.Steps.{heldNow}
 use Rattle.ledger_image.specs.Images.{wideCount, wideSection, readRegistries}
-use Rattle.ledger_registry_image.specs.RegistrySections.{registriesIn, wellLetters, heldRead, Stored}
+use Rattle.ledger_sections.specs.RegistrySections.{registriesIn, wellLetters, heldRead, Stored}
 
 record Tells {A : Type 0} (p : Reader A) (good : A → Bool) : Type 0 where
   says : (s : List ℕ) (c : Cursor) → p s c .next .ok ≡ true → (c .ok ≡ true) × (good (p s c .value) ≡ true)

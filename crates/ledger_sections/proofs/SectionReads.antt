@@ -15,7 +15,7 @@ use Rattle.codec_cursor.specs.declared.cursor.Cursor.{Cursor}
 use Rattle.registry_state.specs.States.{Registry, viewRegistry, wellRegistry, readRegistry}
 use Rattle.registry_state.specs.declared.state.RegistryState.{RegistryState}
 use Rattle.ledger_step.specs.Ledgers.{heldOf}
-use Rattle.ledger_registry_image.specs.RegistrySections.{registriesIn, wellLetters, heldRead, Stored}
+use Rattle.ledger_sections.specs.RegistrySections.{registriesIn, wellLetters, heldRead, Stored}
 
 -- a registry whose counts are within the limits, as it is held
 pub counted-held : (g : RegistryState) → (g .configs .count ≤ 8) × (g .backers .count ≤ 16) → heldOf g ≡ heldRead (viewRegistry g)

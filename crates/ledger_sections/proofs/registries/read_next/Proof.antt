@@ -2,10 +2,10 @@ use borrow.Author.Needs.{needs}
 use mathlib.Core.Path.{ap, _∙_}
 use Rattle.codec_cursor.specs.Readers.{Read}
 use Rattle.registry_state.specs.States.{Registry}
-use Rattle.ledger_registry_image.specs.RegistrySections.{heldRead}
-use Rattle.ledger_registry_image.proofs.SectionReads.{counted-held}
-use Rattle.ledger_registry_image.proofs.registries.read_next.Statement.{statement}
-use Rattle.ledger_registry_image.proofs.registries.read_next.Tie as tie
+use Rattle.ledger_sections.specs.RegistrySections.{heldRead}
+use Rattle.ledger_sections.proofs.SectionReads.{counted-held}
+use Rattle.ledger_sections.proofs.registries.read_next.Statement.{statement}
+use Rattle.ledger_sections.proofs.registries.read_next.Tie as tie
 
 read-requires : tie.Need-read-requires
 read-requires c κs = search needs

@@ -21,7 +21,7 @@ use Rattle.registry_state.specs.declared.state.RegistryState.{RegistryState}
 use Rattle.registry_state.proofs.StateLoops.{length-registry}
 use Rattle.cesr.specs.Primitives.{none}
 use Rattle.ledger_image.specs.Images.{wideBytes, registrySection}
-use Rattle.ledger_registry_image.specs.RegistrySections.{sectionOf}
+use Rattle.ledger_sections.specs.RegistrySections.{sectionOf}
 
 pub registry-few : (g : RegistryState) → length (g .configs .codes) ≡ 8 → length (g .backers .items) ≡ 16 → length (registryBytes (viewRegistry g)) ≤ 657
 registry-few g c b = omega (arith, length-registry (viewRegistry g), configs-size (g .configs) c, backers-size (g .backers) b)

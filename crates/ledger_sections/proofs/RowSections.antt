@@ -12,7 +12,7 @@ use Rattle.codec_cursor.specs.Readers.{placed, times}
 use Rattle.registry_state.specs.States.{readCredential}
 use Rattle.registry_state.specs.declared.state.CredentialState.{CredentialState}
 use Rattle.ledger_image.specs.Images.{credentialSection, wideCount, wideSection, readCredentials}
-use Rattle.ledger_row_image.specs.RowImages.{writtenRows, rowsFrom}
+use Rattle.ledger_sections.specs.RowImages.{writtenRows, rowsFrom}
 
 pub written-section : (ws : List CredentialState) (n : ℕ) (out : List ℕ) → n ≤ length ws → writtenRows ws n out ≡ put out 0 (credentialSection (take n ws))
 unfolding writtenRows
