@@ -28,8 +28,8 @@ use Rattle.ledger_image.proofs.ImageLength.{length-wide, length-image}
 use Rattle.ledger_sections.specs.RegistrySections.{sectionOf}
 use Rattle.ledger_sections.specs.RowImages.{writtenRows}
 use Rattle.ledger_sections.proofs.RowSections.{written-section}
-use Rattle.ledger_write.specs.Writes.{imageSize, answerOf, viewWritten, withSections}
-use Rattle.ledger_write.specs.declared.write.Written as Code
+use Rattle.ledger_written.specs.Writes.{imageSize, answerOf, viewWritten, withSections}
+use Rattle.ledger_written.specs.declared.answer.Written as Code
 
 states-are : (gs : List RegistryState) → map stateOf (map heldOf gs) ≡ map viewRegistry gs
 states-are [] = refl

@@ -5,9 +5,9 @@ use native.Mathlib.Omega.{arith}
 use borrow.Author.Needs.{needs}
 use borrow.Author.Tests.{leb-true}
 use lib.Dec.{leb}
-use Rattle.ledger_write.specs.Writes.{imageSize, answerOf}
-use Rattle.ledger_write.proofs.write.writing.Statement.{statement}
-use Rattle.ledger_write.proofs.write.writing.Tie as tie
+use Rattle.ledger_written.specs.Writes.{imageSize, answerOf}
+use Rattle.ledger_written.proofs.answer.writing.Statement.{statement}
+use Rattle.ledger_written.proofs.answer.writing.Tie as tie
 
 -- where there is room, the sizes are below it
 below : (first n room : ℕ) (t : Bool) → t ≡ leb (imageSize first n) room → t ≡ true → imageSize first n ≤ room

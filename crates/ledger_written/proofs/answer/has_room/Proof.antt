@@ -5,9 +5,9 @@ use native.Mathlib.Omega.{arith}
 use borrow.Author.Needs.{needs}
 use borrow.Author.Tests.{le-leb, lt-leb, leb-true, leb-false}
 use lib.Dec.{leb}
-use Rattle.ledger_write.specs.Writes.{imageSize}
-use Rattle.ledger_write.proofs.write.has_room.Statement.{statement}
-use Rattle.ledger_write.proofs.write.has_room.Tie as tie
+use Rattle.ledger_written.specs.Writes.{imageSize}
+use Rattle.ledger_written.proofs.answer.has_room.Statement.{statement}
+use Rattle.ledger_written.proofs.answer.has_room.Tie as tie
 
 -- there is no room for a count behind the first section
 too-short : (first n room : ℕ) → room < first + 2 → false ≡ leb (imageSize first n) room
