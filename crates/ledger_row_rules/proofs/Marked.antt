@@ -22,9 +22,15 @@ use Rattle.registry_laws.specs.Pairs.{Pair, keyOf}
 use Rattle.ledger_step.specs.Ledgers.{eqPair}
 use Rattle.ledger_step.specs.Tables.{place}
 use Rattle.ledger_step.proofs.Rules.{pair-test}
-use Rattle.ledger_rows.specs.Rows.{rowAt, findAt}
-use Rattle.ledger_rows_check.specs.Marking.{wordOf, bitOf, noMarks, marking}
-use Rattle.ledger_rows_check.specs.declared.check.Marks.{Marks}
+use Rattle.ledger_row_rules.specs.Marking.{wordOf, bitOf, noMarks, marking}
+use Rattle.ledger_row_rules.specs.declared.marks.Marks.{Marks}
+
+-- the row at a place, and the place where a search for a key ends among the first n rows
+abbrev rowAt : List CredentialState → ℕ → CredentialState
+rowAt l i = getD l i noCredential
+
+abbrev findAt : List CredentialState → ℕ → Said → Said → ℕ
+findAt l n registry credential = place keyOf eqPair noCredential (record { registry = registry; credential = credential }) (take n l)
 
 -- ---- bits that are set stay set
 small : (x : ℕ) → x % 2 < 2
@@ -117,7 +123,7 @@ module _ (l : List CredentialState) where
 
   -- a credential whose bit is not set is in no row
   not-there : (i : ℕ) (r c : Said) → i ≤ length l → (Met (marksOf i) c → ⊥) → findAt l i r c ≡ i
-  unfolding findAt place
+  unfolding place
   not-there i r c b h =
       let e : length (take i l) ≡ i = length-take-le i l b in
       first-none (λ k. eqPair (keyOf (getD (take i l) k noCredential)) (record { registry = r; credential = c })) (length (take i l)) (λ k u. go k (subst (λ (x : ℕ). k < x) e u) (eqPair (keyOf (getD (take i l) k noCredential)) (record { registry = r; credential = c })) refl) ∙ e

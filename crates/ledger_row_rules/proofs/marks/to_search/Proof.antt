@@ -1,6 +1,6 @@
 use borrow.Author.Tests.{eq-eqb, ne-eqb}
-use Rattle.ledger_rows_check.proofs.check.to_search.Statement.{statement}
-use Rattle.ledger_rows_check.proofs.check.to_search.Tie as tie
+use Rattle.ledger_row_rules.proofs.marks.to_search.Statement.{statement}
+use Rattle.ledger_row_rules.proofs.marks.to_search.Tie as tie
 
 returns : tie.Need-returns
 returns c = rw (eq-eqb _ _ (c .if1 .taken))

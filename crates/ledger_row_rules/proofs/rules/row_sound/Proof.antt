@@ -7,8 +7,8 @@ use Rattle.cesr.specs.declared.number.Sn.{Sn}
 use Rattle.registry_state.specs.States.{wellCredential}
 use Rattle.registry_state.specs.declared.state.CredentialState.{CredentialState}
 use Rattle.ledger_step.specs.Ledgers.{zeroOrOne}
-use Rattle.ledger_rows_check.proofs.check.row_sound.Statement.{statement}
-use Rattle.ledger_rows_check.proofs.check.row_sound.Tie as tie
+use Rattle.ledger_row_rules.proofs.rules.row_sound.Statement.{statement}
+use Rattle.ledger_row_rules.proofs.rules.row_sound.Tie as tie
 
 well-formed-requires : tie.Need-well-formed-requires
 well-formed-requires c κs = search needs

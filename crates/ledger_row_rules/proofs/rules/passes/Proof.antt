@@ -1,6 +1,6 @@
 use borrow.Author.Needs.{needs}
-use Rattle.ledger_rows_check.proofs.check.passes.Statement.{statement}
-use Rattle.ledger_rows_check.proofs.check.passes.Tie as tie
+use Rattle.ledger_row_rules.proofs.rules.passes.Statement.{statement}
+use Rattle.ledger_row_rules.proofs.rules.passes.Tie as tie
 
 row-sound-requires : tie.Need-row-sound-requires
 row-sound-requires c κs = search needs

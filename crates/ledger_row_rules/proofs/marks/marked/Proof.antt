@@ -1,7 +1,7 @@
 use borrow.Author.Needs.{needs}
-use Rattle.ledger_rows_check.specs.Marking.{marking}
-use Rattle.ledger_rows_check.proofs.check.marked.Statement.{statement}
-use Rattle.ledger_rows_check.proofs.check.marked.Tie as tie
+use Rattle.ledger_row_rules.specs.Marking.{marking}
+use Rattle.ledger_row_rules.proofs.marks.marked.Statement.{statement}
+use Rattle.ledger_row_rules.proofs.marks.marked.Tie as tie
 
 shl-bit : tie.Need-shl-bit
 shl-bit c = search needs

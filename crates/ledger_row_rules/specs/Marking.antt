@@ -5,7 +5,7 @@ use lib.Dec.{eqb}
 use lib.Bits.{bitAnd, bitOr}
 use lib.ListN.{getD, set, replicate}
 use Rattle.cesr.specs.declared.primitive.Said.{Said}
-use Rattle.ledger_rows_check.specs.declared.check.Marks.{Marks}
+use Rattle.ledger_row_rules.specs.declared.marks.Marks.{Marks}
 
 -- the word in which the credential's bit stands, and the bit
 abbrev pub wordOf : Said → ℕ
