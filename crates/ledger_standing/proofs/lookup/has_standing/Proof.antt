@@ -1,6 +1,6 @@
 use borrow.Author.Needs.{needs}
-use Rattle.ledger_lookup.proofs.lookup.has_standing.Statement.{statement}
-use Rattle.ledger_lookup.proofs.lookup.has_standing.Tie as tie
+use Rattle.ledger_standing.proofs.lookup.has_standing.Statement.{statement}
+use Rattle.ledger_standing.proofs.lookup.has_standing.Tie as tie
 
 is-said-requires : tie.Need-is-said-requires
 is-said-requires c κs = search needs

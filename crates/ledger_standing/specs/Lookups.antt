@@ -7,7 +7,7 @@ use Rattle.cesr.specs.declared.primitive.Said.{Said}
 use Rattle.registry_state.specs.declared.state.CredentialState.{CredentialState}
 use Rattle.registry_laws.specs.Pairs.{Pair}
 use Rattle.ledger_step.specs.Ledgers.{LookedUp, standingOf, wellPair}
-use Rattle.ledger_lookup.specs.declared.lookup.LookedUp as Code
+use Rattle.ledger_standing.specs.declared.lookup.LookedUp as Code
 
 -- a key, from its two parts
 abbrev pub keyPair : Said → Said → Pair

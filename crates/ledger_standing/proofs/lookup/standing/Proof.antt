@@ -1,7 +1,7 @@
 use borrow.Author.Needs.{needs}
-use Rattle.ledger_lookup.specs.Lookups.{lookedUpOf}
-use Rattle.ledger_lookup.proofs.lookup.standing.Statement.{statement}
-use Rattle.ledger_lookup.proofs.lookup.standing.Tie as tie
+use Rattle.ledger_standing.specs.Lookups.{lookedUpOf}
+use Rattle.ledger_standing.proofs.lookup.standing.Statement.{statement}
+use Rattle.ledger_standing.proofs.lookup.standing.Tie as tie
 
 has-standing-requires : tie.Need-has-standing-requires
 has-standing-requires c κs = search needs
