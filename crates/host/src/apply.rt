@@ -7,7 +7,7 @@ ghost use mathlib.Core.Bool.{false};
 ghost use Rattle.registry_answer.specs.Answers.{accepts};
 ghost use Rattle.registry_error.specs.Errors.{answerNumber};
 ghost use Rattle.ledger_step.specs.Steps.{requestOf, effect, stepOf};
-ghost use Rattle.ledger_apply.specs.Applies.{Stores};
+ghost use Rattle.ledger_stores.specs.Applies.{Stores};
 ghost use Rattle.ledger_table.specs.Tables.{viewLedger};
 ghost use Rattle.ledger_laws.specs.LentTables.{lentOf};
 ghost use Rattle.host_report.specs.Reports.{answerReport};

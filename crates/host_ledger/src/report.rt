@@ -2,8 +2,8 @@
 use host_report::report::report_plain;
 use host_values::values::Values;
 use host_values::values::small;
-use ledger_lookup::lookup::LookedUp;
-use ledger_write::write::Written;
+use ledger_standing::lookup::LookedUp;
+use ledger_written::answer::Written;
 ghost use mathlib.Core.Path.{_≡_};
 ghost use Rattle.host_ledger.specs.LedgerCalls.{lookedUpReport, writtenReport, readReport};
 

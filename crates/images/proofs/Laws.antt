@@ -19,10 +19,10 @@ use Rattle.cesr.specs.Primitives.{readMatter}
 use Rattle.registry_laws.specs.Pairs.{Pair}
 use Rattle.ledger_step.specs.Ledgers.{Ledger, lentLedger, sound, lookUp}
 use Rattle.ledger_image.specs.Images.{ImageAnswer, Written, imageNumber, ledgerBytes, writtenOf}
-use Rattle.ledger_lookup.specs.declared.lookup.LookedUp.{LookedUp}
-use Rattle.ledger_lookup.specs.Lookups.{keyPair, viewLookedUp}
-use Rattle.ledger_write.specs.declared.write.Written as Code
-use Rattle.ledger_write.specs.Writes.{viewWritten}
+use Rattle.ledger_standing.specs.declared.lookup.LookedUp.{LookedUp}
+use Rattle.ledger_standing.specs.Lookups.{keyPair, viewLookedUp}
+use Rattle.ledger_written.specs.declared.answer.Written as Code
+use Rattle.ledger_written.specs.Writes.{viewWritten}
 use Rattle.ledger_table.specs.declared.table.Ledger as Value
 use Rattle.ledger_table.specs.Tables.{viewLedger, ledgerAfter}
 use Rattle.images.specs.declared.answer.Facts.{Facts}

@@ -11,9 +11,9 @@ use denote.Enum.Laws as EL
 use Rattle.registry_error.proofs.error.Answer as E
 use Rattle.registry_error.proofs.error.Answer.Laws as E′
 use Rattle.registry_error.specs.declared.error.Answer.{Answer}
-use Rattle.ledger_apply.specs.declared.apply.Applied.{Applied}
-use Rattle.ledger_apply.proofs.apply.Applied as B
-use Rattle.ledger_apply.proofs.apply.Applied.Laws as B′
+use Rattle.ledger_stores.specs.declared.call.Applied.{Applied}
+use Rattle.ledger_stores.proofs.call.Applied as B
+use Rattle.ledger_stores.proofs.call.Applied.Laws as B′
 use Rattle.ledger_table.specs.declared.table.Ledger.{Ledger}
 use Rattle.ledger.specs.declared.ledger.LedgerApplied.{LedgerApplied}
 use Rattle.ledger.proofs.ledger.LedgerApplied as N

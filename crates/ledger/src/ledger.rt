@@ -1,12 +1,12 @@
 // A ledger as a value: both arrays with their counts (docs/RULES.md, "Ledger"). Each call lends the arrays to the call of that name over slices.
 use cesr::primitive::Said;
 use ledger_apply::apply::apply as apply_lent;
-use ledger_lookup::lookup::LookedUp;
 use ledger_lookup::lookup::look_up as look_up_lent;
 use ledger_read::read::read_image as read_lent;
+use ledger_standing::lookup::LookedUp;
 use ledger_table::table::Ledger;
-use ledger_write::write::Written;
 use ledger_write::write::write_image as write_lent;
+use ledger_written::answer::Written;
 use registry_error::error::Answer;
 ghost use mathlib.Core.Path.{_≡_};
 ghost use mathlib.Core.Bool.{false};
@@ -15,8 +15,8 @@ ghost use Rattle.ledger_step.specs.Ledgers.{lookUp};
 ghost use Rattle.ledger_step.specs.Steps.{stepOf};
 ghost use Rattle.ledger_image.specs.Images.{imageOf, imageNumber, writtenOf};
 ghost use Rattle.ledger_image.specs.Images.ImageAnswer.{refused};
-ghost use Rattle.ledger_lookup.specs.Lookups.{keyPair, viewLookedUp};
-ghost use Rattle.ledger_write.specs.Writes.{viewWritten};
+ghost use Rattle.ledger_standing.specs.Lookups.{keyPair, viewLookedUp};
+ghost use Rattle.ledger_written.specs.Writes.{viewWritten};
 ghost use Rattle.ledger_table.specs.Tables.{viewLedger, ledgerAfter};
 
 // What an attempt answers, and the ledger behind it, which after a refusal is the one that was handed in.

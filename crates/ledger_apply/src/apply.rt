@@ -1,7 +1,6 @@
 // One attempt against a ledger that is lent (docs/RULES.md, "Ledger", "Orders", "Next states").
 use ledger_asked::asked::named;
 use ledger_check::check::sound;
-use ledger_next::call::Next;
 use ledger_next::step::next;
 use ledger_registries::registries::find_registry;
 use ledger_registries::registries::read_registry;
@@ -9,33 +8,14 @@ use ledger_registries::registries::store_registry;
 use ledger_rows::rows::find_at;
 use ledger_rows::rows::read_row;
 use ledger_rows::rows::store_row;
-use registry_error::error::Answer;
+use ledger_stores::call::Applied;
+use ledger_stores::call::answered;
 use registry_state::state::CredentialState;
 use registry_state::state::RegistryState;
 ghost use mathlib.Core.Path.{_≡_};
 ghost use Rattle.ledger_step.specs.Ledgers.{lentLedger};
 ghost use Rattle.ledger_step.specs.Steps.{requestOf, effect, stepOf};
-ghost use Rattle.ledger_apply.specs.Applies.{lent, Stores, appliedOf};
-
-// An answer, and how many registries and rows are held after it.
-pub struct Applied {
-    pub answer: Answer,
-    pub registry_count: usize,
-    pub row_count: usize,
-}
-
-fn answered(next: Next) -> Applied
-    ensures { λ r. ⌜ r ≡ appliedOf next ⌝ }
-{
-    let answer = next.answer;
-    let registry_count = next.registry_count;
-    let row_count = next.row_count;
-    Applied {
-        answer,
-        registry_count,
-        row_count,
-    }
-}
+ghost use Rattle.ledger_stores.specs.Applies.{lent, Stores};
 
 // A registry and a row are always stored. A state that the attempt does not change is the one that was read there; past the end nothing is stored.
 pub fn apply(

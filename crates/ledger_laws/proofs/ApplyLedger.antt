@@ -12,8 +12,8 @@ use Rattle.registry_answer.specs.Answers.{accepts}
 use Rattle.ledger_step.specs.Ledgers as L
 use Rattle.ledger_step.specs.Steps.{Effect, requestOf, effect, answerOf, stepOf}
 use Rattle.ledger_step.specs.Steps.Effect.{refuse, newRegistry, setRegistry, newRow, setRow}
-use Rattle.ledger_apply.specs.Applies.{Lent, lent, Stores}
-use Rattle.ledger_apply.specs.declared.apply.Applied.{Applied}
+use Rattle.ledger_stores.specs.Applies.{Lent, lent, Stores}
+use Rattle.ledger_stores.specs.declared.call.Applied.{Applied}
 use Rattle.ledger_table.specs.Tables.{viewLedger}
 use Rattle.ledger_table.specs.declared.table.Ledger.{Ledger}
 

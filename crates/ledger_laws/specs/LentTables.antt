@@ -1,5 +1,5 @@
 -- A ledger in memory, whole: both arrays and their counts, with what stands behind the counts.
-use Rattle.ledger_apply.specs.Applies.{Lent, lent}
+use Rattle.ledger_stores.specs.Applies.{Lent, lent}
 use Rattle.ledger_table.specs.declared.table.Ledger.{Ledger}
 
 abbrev pub lentOf : Ledger → Lent

@@ -20,15 +20,7 @@ use Rattle.ledger_step.specs.Ledgers.{Ledger, LookedUp, lentLedger, sound, eqPa
 use Rattle.ledger_step.proofs.PlaceLaws.{find-place}
 use Rattle.ledger_step.proofs.Rules.{Keeps, parts}
 use Rattle.ledger_rows.specs.Rows as R
-use Rattle.ledger_lookup.specs.Lookups.{keyPair, lookedUpOf}
-
--- an sn of 0 is one below 1
-pub zero-below : (n : ℕ) → ltb n 1 ≡ eqb n 0
-zero-below n = go (ltb n 1) refl
-  where
-    go : (p : Bool) → ltb n 1 ≡ p → p ≡ eqb n 0
-    go true e = let h = ltb-true n 1 e in sym (eq-eqb n 0 (omega (arith, h)))
-    go false e = let h = ltb-false n 1 e in sym (ne-eqb n 0 (λ z. absurd (omega (arith, h, z))))
+use Rattle.ledger_standing.specs.Lookups.{keyPair, lookedUpOf}
 
 pub looked-up : (gs : List RegistryState) (m : ℕ) (ws : List CredentialState) (n : ℕ) (r c : Said) → lookedUpOf (sound (lentLedger gs m ws n)) (R.findAt ws n r c) n (R.rowAt ws (R.findAt ws n r c)) (keyPair r c) ≡ lookUp (lentLedger gs m ws n) (keyPair r c)
 unfolding lookedUpOf lookUp lentLedger R.findAt

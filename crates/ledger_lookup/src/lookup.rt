@@ -1,79 +1,15 @@
 // The standing of a credential, by its key (docs/RULES.md, "Look-up").
-use cesr::number::Sn;
 use cesr::primitive::Said;
 use ledger_check::check::sound;
 use ledger_rows::rows::find_at;
 use ledger_rows::rows::read_row;
+use ledger_standing::lookup::LookedUp;
+use ledger_standing::lookup::standing;
 use registry_state::state::CredentialState;
 use registry_state::state::RegistryState;
 ghost use mathlib.Core.Path.{_≡_};
-ghost use mathlib.Core.Bool.{_&&_};
-ghost use lib.Dec.{eqb, ltb};
-ghost use Rattle.cesr.specs.Numbers.{value};
-ghost use Rattle.ledger_step.specs.Ledgers.{lentLedger, sound, wellPair, lookUp};
-ghost use Rattle.ledger_lookup.specs.Lookups.{viewLookedUp, keyPair, lookedUpOf};
-
-// What a look-up answers: 0 or the refusal 1, and 1 Issued, 2 Revoked, 3 Unknown, or 0 after a refusal.
-pub struct LookedUp {
-    pub refusal: u8,
-    pub standing: u8,
-}
-
-// Whether there is a standing: the ledger keeps to the reading rules, and both parts of the key are saids.
-fn has_standing(ok: bool, registry: Said, credential: Said) -> bool
-    ensures { λ r. ⌜ r ≡ (ok && wellPair (keyPair registry credential)) ⌝ }
-{
-    ok & (registry.0.is_said() & credential.0.is_said())
-}
-
-fn is_below(at: usize, count: usize) -> bool
-    ensures { λ r. ⌜ r ≡ ltb at count ⌝ }
-{
-    at < count
-}
-
-// A credential is issued at sn 0; each later sn is a revocation's.
-fn is_issued(row: CredentialState) -> bool
-    ensures { λ r. ⌜ r ≡ eqb (value (row .sn)) 0 ⌝ }
-{
-    let one = Sn { hi: 0, lo: 1 };
-    row.sn.less(one)
-}
-
-// What the row at the place says where a search for the key ended. Past the last row there is none.
-fn standing(
-    ok: bool,
-    at: usize,
-    row_count: usize,
-    row: CredentialState,
-    registry: Said,
-    credential: Said,
-) -> LookedUp
-    ensures { λ r. ⌜ viewLookedUp r ≡ lookedUpOf ok at «row_count» row (keyPair registry credential) ⌝ }
-{
-    if has_standing(ok, registry, credential) {
-        if is_below(at, row_count) {
-            if is_issued(row) {
-                return LookedUp {
-                    refusal: 0,
-                    standing: 1,
-                };
-            }
-            return LookedUp {
-                refusal: 0,
-                standing: 2,
-            };
-        }
-        return LookedUp {
-            refusal: 0,
-            standing: 3,
-        };
-    }
-    LookedUp {
-        refusal: 1,
-        standing: 0,
-    }
-}
+ghost use Rattle.ledger_step.specs.Ledgers.{lentLedger, lookUp};
+ghost use Rattle.ledger_standing.specs.Lookups.{viewLookedUp, keyPair};
 
 // The standing of a credential. A ledger that breaks a reading rule has none, nor has a key whose parts are no saids.
 pub fn look_up<'a>(

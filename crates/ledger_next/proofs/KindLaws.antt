@@ -14,9 +14,9 @@ use Rattle.registry_error.specs.declared.error.Answer.{Answer}
 use Rattle.ledger_step.specs.Steps.{afterFold}
 use Rattle.ledger_asked.specs.declared.call.Named.{Named}
 use Rattle.ledger_asked.specs.Names.{decodes}
-use Rattle.ledger_next.specs.declared.call.Next.{Next}
+use Rattle.ledger_stores.specs.declared.call.Next.{Next}
 use Rattle.ledger_answers.specs.Checks.{askedAnswer}
-use Rattle.ledger_next.specs.Effects.{ifRead, inceptionNamed, rotationNamed, issueNamed, revocationNamed, pairNamed, kindEffect, effectNamed, Leaves}
+use Rattle.ledger_stores.specs.Effects.{ifRead, inceptionNamed, rotationNamed, issueNamed, revocationNamed, pairNamed, kindEffect, effectNamed, Leaves}
 use Rattle.ledger_next.proofs.ReadingLaws.{asked-passes, asked-refuses}
 use Rattle.ledger_next.proofs.Left.{leaves-all}
 

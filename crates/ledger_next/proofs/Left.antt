@@ -29,11 +29,11 @@ use Rattle.registry_laws.proofs.Chains.{all-accept}
 use Rattle.ledger_step.specs.Ledgers.{heldOf}
 use Rattle.ledger_step.specs.Steps.{Effect, afterFold, heldNow}
 use Rattle.ledger_step.specs.Steps.Effect.{newRegistry, setRegistry, newRow, setRow}
-use Rattle.ledger_next.specs.declared.call.Next.{Next}
+use Rattle.ledger_stores.specs.declared.call.Next.{Next}
 use Rattle.ledger_answers.specs.Checks.{inceptionAnswer, rotationAnswer, issueAnswer, revocationAnswer}
 use Rattle.ledger_asked.specs.Names.{decodes}
 use Rattle.ledger_reading.specs.Readings.{behindReading}
-use Rattle.ledger_next.specs.Effects.{ifRead, inceptionNamed, rotationNamed, issueNamed, revocationNamed, Leaves}
+use Rattle.ledger_stores.specs.Effects.{ifRead, inceptionNamed, rotationNamed, issueNamed, revocationNamed, Leaves}
 use Rattle.ledger_next.proofs.ReadingLaws.{both-after, both-accept}
 
 -- an answer that accepts

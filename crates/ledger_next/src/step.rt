@@ -1,5 +1,4 @@
 // What an attempt leaves of the registry and the row that it names (docs/RULES.md, "Ledger", "Next states"). Each function hands back what was handed in, but for the one state that an accepted attempt changes.
-use crate::call::Next;
 use ledger_answers::answers::asked_answer;
 use ledger_answers::answers::inception_answer;
 use ledger_answers::answers::issue_answer;
@@ -8,6 +7,7 @@ use ledger_answers::answers::rotation_answer;
 use ledger_asked::call::Named;
 use ledger_reading::reading::asked_without_fold;
 use ledger_reading::reading::behind_reading;
+use ledger_stores::call::Next;
 use registry::registry::ingest as ingest_registry;
 use registry_answer::answer::accepts;
 use registry_credential_state::credential_state::ingest as ingest_credential;
@@ -20,7 +20,7 @@ ghost use mathlib.Core.Path.{_≡_};
 ghost use lib.Dec.{ltb};
 ghost use Rattle.cesr.specs.declared.primitive.Said.{Said};
 ghost use Rattle.registry_laws.specs.Pairs.{Pair};
-ghost use Rattle.ledger_next.specs.Effects.{ifRead, inceptionNamed, rotationNamed, issueNamed, revocationNamed, kindEffect, effectNamed, Leaves};
+ghost use Rattle.ledger_stores.specs.Effects.{ifRead, inceptionNamed, rotationNamed, issueNamed, revocationNamed, kindEffect, effectNamed, Leaves};
 
 // Whether a place is before the count.
 fn is_below(at: usize, count: usize) -> bool

@@ -21,9 +21,9 @@ use Rattle.ledger_step.specs.Ledgers.{heldOf}
 use Rattle.ledger_step.specs.Steps.{heldNow}
 use Rattle.ledger_image.specs.Images.{ImageAnswer, imageNumber, readRegistries, imageOf, imageInto}
 use Rattle.ledger_image.specs.Images.ImageAnswer.{refused, held}
-use Rattle.ledger_row_image.specs.RowImages.{rowsFrom}
-use Rattle.ledger_registry_image.specs.RegistrySections.{registriesIn, Stored}
-use Rattle.ledger_registry_image.proofs.SectionHeld.{stored-held}
+use Rattle.ledger_sections.specs.RowImages.{rowsFrom}
+use Rattle.ledger_sections.specs.RegistrySections.{registriesIn, Stored}
+use Rattle.ledger_sections.proofs.SectionHeld.{stored-held}
 use Rattle.ledger_image_check.specs.Checks.{ImageCheck, checkedBy, checkedOf}
 use Rattle.ledger_image_check.proofs.Reread.{Reread, reread}
 use Rattle.ledger_read.specs.ImageReads.{planOf, answerBy, countsOf, countsAfter, rowsAfter, Placed, RegistriesAfter}

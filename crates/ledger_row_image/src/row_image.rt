@@ -2,23 +2,11 @@
 use codec_cursor::cursor::Cursor;
 use ledger_image::image::write_count;
 use ledger_rows::rows::store_row;
+use ledger_sections::rows::section_fits;
 use registry_state::state::CredentialState;
 ghost use mathlib.Core.Path.{_≡_};
-ghost use mathlib.Core.Bool.{_&&_};
-ghost use Prim.Native.Nat.{_+_, _*_};
-ghost use lib.Dec.{leb};
 ghost use lib.Seq.{sets};
-ghost use Rattle.ledger_row_image.specs.RowImages.{writtenRows, rowsFrom};
-
-// Whether there are `count` rows among the held ones, and room for their section: two bytes for the count and 115 for each row.
-fn section_fits(count: usize, held: usize, room: usize) -> bool
-    ensures { λ r. ⌜ r ≡ (leb count held && leb (2 + 115 * count) room) ⌝ }
-{
-    if room < 2 {
-        return false;
-    }
-    (count <= held) & (count <= (room - 2) / 115)
-}
+ghost use Rattle.ledger_sections.specs.RowImages.{writtenRows, rowsFrom};
 
 // The count and the first `count` rows, from the buffer's start. Where there are not so many rows, or no room for all their bytes, nothing is written.
 pub fn write_rows(rows: &[CredentialState], count: usize, out: &mut [u8])

@@ -17,7 +17,7 @@ use Rattle.ledger_step.specs.Ledgers.{eqPair, zeroOrOne, holds, rowRules}
 use Rattle.ledger_step.proofs.Rules.{pair-test}
 use Rattle.ledger_step.proofs.TableChecks as C
 use Rattle.ledger_rows.specs.Rows.{rowAt, findAt}
-use Rattle.ledger_rows_check.proofs.Marked.{marksOf, same-test}
+use Rattle.ledger_row_rules.proofs.Marked.{marksOf, same-test}
 
 module _ (l : List CredentialState) where
   -- the test of the sizes, by the slice's length and the count
@@ -34,6 +34,7 @@ module _ (l : List CredentialState) where
 
   -- a search among the rows that the marks leave to be searched says the same
   pub passes-same : (i : ℕ) → i ≤ length l → ((wellCredential (rowAt l i) && zeroOrOne (rowAt l i)) && leb (marksOf l (suc i) .searched) (findAt l (marksOf l (suc i) .searched) (rowAt l i .registry) (rowAt l i .credential))) ≡ passesAt i
+  unfolding findAt
   passes-same i b = ap (λ (t : Bool). (wellCredential (rowAt l i) && zeroOrOne (rowAt l i)) && t) (same-test l i b)
 
   abbrev pub Facts : ℕ → ℕ → Type 0

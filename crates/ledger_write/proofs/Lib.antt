@@ -1,2 +1,1 @@
 pub mod PartLent
-pub mod ImageWrites

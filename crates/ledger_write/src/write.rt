@@ -3,58 +3,15 @@ use ledger_check::check::sound;
 use ledger_registry_image::registries::registries_size;
 use ledger_registry_image::registries::write_registries;
 use ledger_row_image::row_image::write_rows;
+use ledger_written::answer::Written;
+use ledger_written::answer::is_refused;
+use ledger_written::answer::writing;
 use registry_state::state::CredentialState;
 use registry_state::state::RegistryState;
 ghost use mathlib.Core.Path.{_≡_};
-ghost use mathlib.Core.Bool.{not};
-ghost use lib.Dec.{eqb, leb};
 ghost use Rattle.ledger_step.specs.Ledgers.{lentLedger};
 ghost use Rattle.ledger_image.specs.Images.{writtenOf};
-ghost use Rattle.ledger_write.specs.Writes.{imageSize, answerOf, viewWritten};
-
-// What writing an image answers: 0, or the refusal 1 or 30, and how many bytes the image has, or 0 after a refusal.
-pub struct Written {
-    pub number: u8,
-    pub size: usize,
-}
-
-// Whether the buffer has room for the first section, of `first` bytes, and the second: two bytes for its count and 115 for each row.
-fn has_room(first: usize, row_count: usize, room: usize) -> bool
-    ensures { λ r. ⌜ r ≡ leb (imageSize first «row_count») room ⌝ }
-{
-    if room < 2 {
-        return false;
-    }
-    if room - 2 < first {
-        return false;
-    }
-    row_count <= (room - 2 - first) / 115
-}
-
-// What is answered: a ledger that breaks a reading rule is refused first, then a buffer that is too short.
-fn writing(ok: bool, first: usize, row_count: usize, room: usize) -> Written
-    ensures { λ r. ⌜ r ≡ answerOf ok (leb (imageSize first «row_count») room) (imageSize first «row_count») ⌝ }
-{
-    if ok {
-        if has_room(first, row_count, room) {
-            return Written {
-                number: 0,
-                size: first + (2 + 115 * row_count),
-            };
-        }
-        return Written {
-            number: 30,
-            size: 0,
-        };
-    }
-    Written { number: 1, size: 0 }
-}
-
-fn is_refused(answer: Written) -> bool
-    ensures { λ r. ⌜ r ≡ not (eqb (answer .number) 0) ⌝ }
-{
-    answer.number != 0
-}
+ghost use Rattle.ledger_written.specs.Writes.{viewWritten};
 
 // The image of a ledger, from the buffer's start. After a refusal the buffer is as it was, and so are the bytes behind an image.
 pub fn write_image<'a>(

@@ -48,10 +48,10 @@ use Rattle.registry_error.proofs.error.Answer.Laws as E′
 use Rattle.ledger_step.specs.Ledgers as L
 use Rattle.ledger_step.specs.Ledgers.{lentLedger}
 use Rattle.ledger_step.specs.Steps.{requestOf, effect, stepOf}
-use Rattle.ledger_apply.specs.Applies.{lent as slices, Stores}
-use Rattle.ledger_apply.specs.declared.apply.Applied.{Applied}
-use Rattle.ledger_apply.proofs.apply.Applied as B
-use Rattle.ledger_apply.proofs.apply.Applied.Laws as B′
+use Rattle.ledger_stores.specs.Applies.{lent as slices, Stores}
+use Rattle.ledger_stores.specs.declared.call.Applied.{Applied}
+use Rattle.ledger_stores.proofs.call.Applied as B
+use Rattle.ledger_stores.proofs.call.Applied.Laws as B′
 use Rattle.ledger_table.proofs.Spelled.{Parts, viewed}
 use Rattle.ledger_laws.proofs.ApplyLedger.{next, applied-answer, applied-view, applied-kept}
 use Rattle.host_report.specs.Reports.{answerReport}

@@ -45,10 +45,10 @@ use Rattle.registry_state.specs.declared.state.RegistryState.{RegistryState}
 use Rattle.registry_state.specs.declared.state.CredentialState.{CredentialState}
 use Rattle.cesr.specs.declared.primitive.Said.{Said}
 use Rattle.ledger_step.specs.Ledgers.{LookedUp, lentLedger, lookUp}
-use Rattle.ledger_lookup.specs.Lookups.{viewLookedUp}
-use Rattle.ledger_lookup.specs.declared.lookup.LookedUp.{LookedUp as Answered}
-use Rattle.ledger_lookup.proofs.lookup.LookedUp as P
-use Rattle.ledger_lookup.proofs.lookup.LookedUp.Laws as P′
+use Rattle.ledger_standing.specs.Lookups.{viewLookedUp}
+use Rattle.ledger_standing.specs.declared.lookup.LookedUp.{LookedUp as Answered}
+use Rattle.ledger_standing.proofs.lookup.LookedUp as P
+use Rattle.ledger_standing.proofs.lookup.LookedUp.Laws as P′
 use Rattle.ledger_table.specs.Tables.{viewLedger}
 use Rattle.ledger_table.specs.declared.table.Ledger.{Ledger}
 use Rattle.ledger_table.proofs.table.Ledger as K

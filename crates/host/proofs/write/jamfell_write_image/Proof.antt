@@ -43,10 +43,10 @@ use Rattle.registry_state.specs.declared.state.RegistryState.{RegistryState}
 use Rattle.registry_state.specs.declared.state.CredentialState.{CredentialState}
 use Rattle.ledger_step.specs.Ledgers.{lentLedger}
 use Rattle.ledger_image.specs.Images.{Written, writtenOf}
-use Rattle.ledger_write.specs.Writes.{viewWritten}
-use Rattle.ledger_write.specs.declared.write.Written.{Written as Answered}
-use Rattle.ledger_write.proofs.write.Written as P
-use Rattle.ledger_write.proofs.write.Written.Laws as P′
+use Rattle.ledger_written.specs.Writes.{viewWritten}
+use Rattle.ledger_written.specs.declared.answer.Written.{Written as Answered}
+use Rattle.ledger_written.proofs.answer.Written as P
+use Rattle.ledger_written.proofs.answer.Written.Laws as P′
 use Rattle.ledger_table.specs.Tables.{viewLedger}
 use Rattle.ledger_table.specs.declared.table.Ledger.{Ledger}
 use Rattle.ledger_table.proofs.table.Ledger as K

@@ -56,11 +56,11 @@ use Rattle.ledger_table.proofs.ArrayLoans.{lends, backs}
 use Rattle.ledger_table.proofs.Spelled.{low-g, low-w, spelled, tells, IsG, IsW, Parts, parts, whole as ledger-is, length-g, length-w, room-g, room-w}
 use Rattle.ledger_step.specs.Ledgers.{lentLedger}
 use Rattle.ledger_step.specs.Steps.{requestOf, effect, stepOf}
-use Rattle.ledger_apply.specs.Applies.{lent as slices, Stores}
+use Rattle.ledger_stores.specs.Applies.{lent as slices, Stores}
 use Rattle.registry_error.proofs.error.Answer.Laws as E′
-use Rattle.ledger_apply.specs.declared.apply.Applied.{Applied}
-use Rattle.ledger_apply.proofs.apply.Applied as B
-use Rattle.ledger_apply.proofs.apply.Applied.Laws as B′
+use Rattle.ledger_stores.specs.declared.call.Applied.{Applied}
+use Rattle.ledger_stores.proofs.call.Applied as B
+use Rattle.ledger_stores.proofs.call.Applied.Laws as B′
 use Rattle.ledger.specs.declared.ledger.LedgerApplied.{LedgerApplied}
 use Rattle.ledger.proofs.ledger.LedgerApplied as N
 use Rattle.ledger.proofs.ledger.LedgerApplied.Laws as N′

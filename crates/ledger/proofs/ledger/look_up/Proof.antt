@@ -55,10 +55,10 @@ use Rattle.cesr.specs.declared.primitive.Said.{Said}
 use Rattle.cesr.proofs.primitive.Said as S
 use Rattle.cesr.proofs.primitive.Said.Laws as S′
 use Rattle.ledger_step.specs.Ledgers.{lentLedger, lookUp}
-use Rattle.ledger_lookup.specs.Lookups.{keyPair, viewLookedUp}
-use Rattle.ledger_lookup.specs.declared.lookup.LookedUp.{LookedUp as Answered}
-use Rattle.ledger_lookup.proofs.lookup.LookedUp as P
-use Rattle.ledger_lookup.proofs.lookup.LookedUp.Laws as P′
+use Rattle.ledger_standing.specs.Lookups.{keyPair, viewLookedUp}
+use Rattle.ledger_standing.specs.declared.lookup.LookedUp.{LookedUp as Answered}
+use Rattle.ledger_standing.proofs.lookup.LookedUp as P
+use Rattle.ledger_standing.proofs.lookup.LookedUp.Laws as P′
 use Rattle.ledger_table.proofs.Spelled.{viewed}
 use Rattle.ledger_lookup.proofs.lookup.look_up as callee
 use Rattle.ledger_lookup.proofs.lookup.look_up.Symbol as callee-def

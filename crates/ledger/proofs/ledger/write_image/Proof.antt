@@ -55,10 +55,10 @@ use Rattle.ledger_table.proofs.ArrayLoans.{Shared, shares, unshares}
 use Rattle.ledger_table.proofs.Spelled.{low-g, low-w, spelled, tells, Parts, parts, length-g, length-w, room-g, room-w}
 use Rattle.ledger_step.specs.Ledgers.{lentLedger}
 use Rattle.ledger_image.specs.Images.{writtenOf}
-use Rattle.ledger_write.specs.Writes.{viewWritten}
-use Rattle.ledger_write.specs.declared.write.Written.{Written as Answered}
-use Rattle.ledger_write.proofs.write.Written as P
-use Rattle.ledger_write.proofs.write.Written.Laws as P′
+use Rattle.ledger_written.specs.Writes.{viewWritten}
+use Rattle.ledger_written.specs.declared.answer.Written.{Written as Answered}
+use Rattle.ledger_written.proofs.answer.Written as P
+use Rattle.ledger_written.proofs.answer.Written.Laws as P′
 use Rattle.ledger_table.proofs.Spelled.{viewed}
 use Rattle.ledger_write.proofs.write.write_image as callee
 use Rattle.ledger_write.proofs.write.write_image.Symbol as callee-def

@@ -1,6 +1,6 @@
 -- `apply::apply` meets its contract: a walk of its MIR, by hand, over three slices at three lifetimes. It has no branch and opens no borrow: ten calls. The two `&mut` slices are lent as `&` to those that read, for a lifetime of the call, and come back as they were; they are lent again as `&mut`, whole, to those that store, and come back at the list that the call leaves. The attempt's `&` is Copy.
 -- Each call stands first by itself, whatever else is in the context: the locals are thirty, and a step is dearer the more there is beside it. Then a lemma for each call, from the last. The types and the offsets of the fields that are passed are written out for the same reason.
--- What the calls tell is what the ledger's step says: `reached` of `../../Reached.antt`.
+-- What the calls tell is what the ledger's step says: `reached` of crates/ledger_stores/proofs/Reached.antt.
 -- Assumes nothing.
 use mathlib.Core.Path.{_≡_, refl, sym, ap, subst}
 use Prim.Native.Nat.{ℕ, _<_, _^_}
@@ -54,12 +54,12 @@ use Rattle.ledger_step.proofs.Relend as again
 use Rattle.ledger_rows.specs.Rows.{rowAt, findAt}
 use Rattle.ledger_registries.specs.Registries.{noHeld, blank, findRegistry}
 use Rattle.ledger_asked.specs.declared.call.Named.{Named}
-use Rattle.ledger_next.specs.declared.call.Next.{Next}
+use Rattle.ledger_stores.specs.declared.call.Next.{Next}
 use Rattle.ledger_asked.specs.Names.{headNamed}
-use Rattle.ledger_next.specs.Effects.{effectNamed, Leaves}
-use Rattle.ledger_apply.specs.declared.apply.Applied.{Applied}
-use Rattle.ledger_apply.specs.Applies.{appliedOf, lent, Stores}
-use Rattle.ledger_apply.proofs.Reached.{Done, reached}
+use Rattle.ledger_stores.specs.Effects.{effectNamed, Leaves}
+use Rattle.ledger_stores.specs.declared.call.Applied.{Applied}
+use Rattle.ledger_stores.specs.Applies.{appliedOf, lent, Stores}
+use Rattle.ledger_stores.proofs.Reached.{Done, reached}
 use Rattle.cesr.proofs.primitive.Said as S
 use Rattle.cesr.proofs.primitive.Said.Laws as S′
 use Rattle.registry_state.proofs.state.RegistryState as G
@@ -68,10 +68,10 @@ use Rattle.registry_state.proofs.state.CredentialState as T
 use Rattle.registry_state.proofs.state.CredentialState.Laws as T′
 use Rattle.ledger_asked.proofs.call.Named as N
 use Rattle.ledger_asked.proofs.call.Named.Laws as N′
-use Rattle.ledger_next.proofs.call.Next as X
-use Rattle.ledger_next.proofs.call.Next.Laws as X′
-use Rattle.ledger_apply.proofs.apply.Applied as A₀
-use Rattle.ledger_apply.proofs.apply.Applied.Laws as A′
+use Rattle.ledger_stores.proofs.call.Next as X
+use Rattle.ledger_stores.proofs.call.Next.Laws as X′
+use Rattle.ledger_stores.proofs.call.Applied as A₀
+use Rattle.ledger_stores.proofs.call.Applied.Laws as A′
 use Rattle.ledger_check.proofs.check.sound as check
 use Rattle.ledger_check.proofs.check.sound.Symbol as check-def
 use Rattle.ledger_check.proofs.check.sound.Symbol.{name as #check}
@@ -108,10 +108,10 @@ use Rattle.ledger_rows.proofs.rows.store_row as keep
 use Rattle.ledger_rows.proofs.rows.store_row.Symbol as keep-def
 use Rattle.ledger_rows.proofs.rows.store_row.Symbol.{name as #keep}
 use Rattle.ledger_rows.proofs.rows.store_row.Met as keep-thm
-use Rattle.ledger_apply.proofs.apply.answered as answer
-use Rattle.ledger_apply.proofs.apply.answered.Symbol as answer-def
-use Rattle.ledger_apply.proofs.apply.answered.Symbol.{name as #answer}
-use Rattle.ledger_apply.proofs.apply.answered.Met as answer-thm
+use Rattle.ledger_stores.proofs.call.answered as answer
+use Rattle.ledger_stores.proofs.call.answered.Symbol as answer-def
+use Rattle.ledger_stores.proofs.call.answered.Symbol.{name as #answer}
+use Rattle.ledger_stores.proofs.call.answered.Met as answer-thm
 use Rattle.ledger_apply.proofs.apply.apply.Key.{name as #me}
 use Rattle.ledger_apply.proofs.apply.apply as me
 use Rattle.ledger_apply.proofs.apply.apply.Statement as stated
@@ -771,4 +771,4 @@ apply-spec 𝓤 H 𝓜 𝓖 𝓡 =
     (cited 𝓤 H (Step 𝓤 H (𝓖 .A) (𝓜 .mem) (𝓡 .run)) 𝓜 𝓡 code.env #step step-def.routine code.calls-ledger-next·step·next (step-thm.met 𝓤 H 𝓜 𝓖 𝓡))
     (cited 𝓤 H (StoreRegistry 𝓤 H (𝓖 .A) (𝓜 .mem) (𝓡 .run)) 𝓜 𝓡 code.env #put put-def.routine code.calls-ledger-registries·registries·store-registry (put-thm.met 𝓤 H 𝓜 𝓖 𝓡))
     (cited 𝓤 H (StoreRow 𝓤 H (𝓖 .A) (𝓜 .mem) (𝓡 .run)) 𝓜 𝓡 code.env #keep keep-def.routine code.calls-ledger-rows·rows·store-row (keep-thm.met 𝓤 H 𝓜 𝓖 𝓡))
-    (cited 𝓤 H (Answered 𝓤 H (𝓖 .A) (𝓜 .mem) (𝓡 .run)) 𝓜 𝓡 code.env #answer answer-def.routine code.calls-ledger-apply·apply·answered (answer-thm.met 𝓤 H 𝓜 𝓖 𝓡)))
+    (cited 𝓤 H (Answered 𝓤 H (𝓖 .A) (𝓜 .mem) (𝓡 .run)) 𝓜 𝓡 code.env #answer answer-def.routine code.calls-ledger-stores·call·answered (answer-thm.met 𝓤 H 𝓜 𝓖 𝓡)))

@@ -44,16 +44,16 @@ use Rattle.registry_state.specs.declared.state.RegistryState.{RegistryState}
 use Rattle.registry_state.specs.declared.state.CredentialState.{CredentialState}
 use Rattle.ledger_step.specs.Ledgers.{lentLedger, sound, lookUp}
 use Rattle.ledger_rows.specs.Rows.{rowAt, findAt}
-use Rattle.ledger_lookup.specs.Lookups.{keyPair, viewLookedUp, lookedUpOf}
-use Rattle.ledger_lookup.specs.declared.lookup.LookedUp.{LookedUp as Answered}
+use Rattle.ledger_standing.specs.Lookups.{keyPair, viewLookedUp, lookedUpOf}
+use Rattle.ledger_standing.specs.declared.lookup.LookedUp.{LookedUp as Answered}
 use Rattle.ledger_lookup.proofs.Found.{looked-up}
 use Rattle.cesr.proofs.primitive.Said as S
 use Rattle.cesr.proofs.primitive.Said.Laws as S′
 use Rattle.registry_state.proofs.state.RegistryState as G
 use Rattle.registry_state.proofs.state.CredentialState as T
 use Rattle.registry_state.proofs.state.CredentialState.Laws as T′
-use Rattle.ledger_lookup.proofs.lookup.LookedUp as P
-use Rattle.ledger_lookup.proofs.lookup.LookedUp.Laws as P′
+use Rattle.ledger_standing.proofs.lookup.LookedUp as P
+use Rattle.ledger_standing.proofs.lookup.LookedUp.Laws as P′
 use Rattle.ledger_check.proofs.check.sound as check
 use Rattle.ledger_check.proofs.check.sound.Symbol as check-def
 use Rattle.ledger_check.proofs.check.sound.Symbol.{name as #check}
@@ -66,10 +66,10 @@ use Rattle.ledger_rows.proofs.rows.read_row as read
 use Rattle.ledger_rows.proofs.rows.read_row.Symbol as read-def
 use Rattle.ledger_rows.proofs.rows.read_row.Symbol.{name as #read}
 use Rattle.ledger_rows.proofs.rows.read_row.Met as read-thm
-use Rattle.ledger_lookup.proofs.lookup.standing as answer
-use Rattle.ledger_lookup.proofs.lookup.standing.Symbol as answer-def
-use Rattle.ledger_lookup.proofs.lookup.standing.Symbol.{name as #answer}
-use Rattle.ledger_lookup.proofs.lookup.standing.Met as answer-thm
+use Rattle.ledger_standing.proofs.lookup.standing as answer
+use Rattle.ledger_standing.proofs.lookup.standing.Symbol as answer-def
+use Rattle.ledger_standing.proofs.lookup.standing.Symbol.{name as #answer}
+use Rattle.ledger_standing.proofs.lookup.standing.Met as answer-thm
 use Rattle.ledger_lookup.proofs.lookup.look_up.Key.{name as #me}
 use Rattle.ledger_lookup.proofs.lookup.look_up as me
 use Rattle.ledger_lookup.proofs.lookup.look_up.Statement as stated
@@ -277,4 +277,4 @@ look-up-spec 𝓤 H 𝓜 𝓖 𝓡 =
     (cited 𝓤 H (Sound 𝓤 H (𝓖 .A) (𝓜 .mem) (𝓡 .run)) 𝓜 𝓡 code.env #check check-def.routine code.calls-ledger-check·check·sound (check-thm.met 𝓤 H 𝓜 𝓖 𝓡))
     (cited 𝓤 H (FindAt 𝓤 H (𝓖 .A) (𝓜 .mem) (𝓡 .run)) 𝓜 𝓡 code.env #find find-def.routine code.calls-ledger-rows·rows·find-at (find-thm.met 𝓤 H 𝓜 𝓖 𝓡))
     (cited 𝓤 H (ReadRow 𝓤 H (𝓖 .A) (𝓜 .mem) (𝓡 .run)) 𝓜 𝓡 code.env #read read-def.routine code.calls-ledger-rows·rows·read-row (read-thm.met 𝓤 H 𝓜 𝓖 𝓡))
-    (cited 𝓤 H (Standing 𝓤 H (𝓖 .A) (𝓜 .mem) (𝓡 .run)) 𝓜 𝓡 code.env #answer answer-def.routine code.calls-ledger-lookup·lookup·standing (answer-thm.met 𝓤 H 𝓜 𝓖 𝓡)))
+    (cited 𝓤 H (Standing 𝓤 H (𝓖 .A) (𝓜 .mem) (𝓡 .run)) 𝓜 𝓡 code.env #answer answer-def.routine code.calls-ledger-standing·lookup·standing (answer-thm.met 𝓤 H 𝓜 𝓖 𝓡)))

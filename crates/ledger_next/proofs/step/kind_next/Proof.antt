@@ -1,5 +1,5 @@
 use denote.Ref.{now}
-use Rattle.ledger_next.specs.Effects.{pairNamed}
+use Rattle.ledger_stores.specs.Effects.{pairNamed}
 use Rattle.ledger_next.proofs.KindLaws.{by-inception, by-rotation, by-issue, by-revocation}
 use borrow.Author.Needs.{needs}
 use Rattle.ledger_next.proofs.step.kind_next.Statement.{statement}

@@ -46,9 +46,9 @@ use denote.Exit.{yes}
 use Rattle.registry_state.specs.declared.state.RegistryState.{RegistryState}
 use Rattle.registry_state.specs.declared.state.CredentialState.{CredentialState}
 use Rattle.ledger_image.specs.Images.{imageInto, imageNumber}
-use Rattle.ledger_row_image.specs.RowImages.{rowsFrom}
+use Rattle.ledger_sections.specs.RowImages.{rowsFrom}
 use Rattle.ledger_step.proofs.Relend.{Kept, relends, backs}
-use Rattle.ledger_registry_image.specs.RegistrySections.{Stored}
+use Rattle.ledger_sections.specs.RegistrySections.{Stored}
 use Rattle.ledger_image_check.specs.declared.image.Checked.{Checked}
 use Rattle.ledger_image_check.specs.Checks.{viewChecked}
 use Rattle.ledger_read.specs.declared.read.ImageRead.{ImageRead}

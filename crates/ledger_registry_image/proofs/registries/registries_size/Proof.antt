@@ -49,15 +49,15 @@ use denote.Triple.Walked.{says, Stays, stay-none, stay-none-slice, walkOf, goes-
 use denote.Exit.{yes}
 use Rattle.registry_state.specs.States.{viewRegistry, registryBytes}
 use Rattle.registry_state.specs.declared.state.RegistryState.{RegistryState}
-use Rattle.ledger_registry_image.specs.RegistrySections.{sectionOf}
-use Rattle.ledger_registry_image.proofs.SectionSizes.{blank, sized, sized-none, sized-all, used, Facts, at-start, few-enough, at-turn, end-fits}
+use Rattle.ledger_sections.specs.RegistrySections.{sectionOf}
+use Rattle.ledger_sections.proofs.SectionSizes.{blank, sized, sized-none, sized-all, used, Facts, at-start, few-enough, at-turn, end-fits}
 use Rattle.ledger_step.proofs.Turns.{offset-fits, below, there, next-fits, next-is, none-passed, all-passed, last-left}
 use Rattle.registry_state.proofs.state.RegistryState as T
 use Rattle.registry_state.proofs.state.RegistryState.Laws as T′
-use Rattle.ledger_registry_image.proofs.registries.section_count as cnt
-use Rattle.ledger_registry_image.proofs.registries.section_count.Symbol as cnt-def
-use Rattle.ledger_registry_image.proofs.registries.section_count.Symbol.{name as #cnt}
-use Rattle.ledger_registry_image.proofs.registries.section_count.Met as cnt-thm
+use Rattle.ledger_sections.proofs.registries.section_count as cnt
+use Rattle.ledger_sections.proofs.registries.section_count.Symbol as cnt-def
+use Rattle.ledger_sections.proofs.registries.section_count.Symbol.{name as #cnt}
+use Rattle.ledger_sections.proofs.registries.section_count.Met as cnt-thm
 use Rattle.ledger_registry_image.proofs.registries.size_with as add
 use Rattle.ledger_registry_image.proofs.registries.size_with.Symbol as add-def
 use Rattle.ledger_registry_image.proofs.registries.size_with.Symbol.{name as #add}
@@ -265,5 +265,5 @@ registries-size-spec 𝓤 H 𝓜 𝓖 𝓡 =
     entered 𝓤 H (tripleOf 𝓤 H (𝓖 .A) me.signature (me.spec 𝓤 H (𝓖 .A) (𝓜 .mem) (𝓡 .run)))
     (tables 𝓤 H 𝓜 𝓡 code.env .C) (tables 𝓤 H 𝓜 𝓡 code.env .Λ) #me code.function (code.unfolded 𝓤 H 𝓜 𝓡)
     (me-meets 𝓤 H (𝓖 .A) (givenOf 𝓤 H 𝓜 𝓖) (𝓜 .mem) (𝓡 .run) (tablesOf 𝓤 H 𝓜 (tables 𝓤 H 𝓜 𝓡 code.env))
-    (cited 𝓤 H (Counts 𝓤 H (𝓖 .A) (𝓜 .mem) (𝓡 .run)) 𝓜 𝓡 code.env #cnt cnt-def.routine code.calls-ledger-registry-image·registries·section-count (cnt-thm.met 𝓤 H 𝓜 𝓖 𝓡))
+    (cited 𝓤 H (Counts 𝓤 H (𝓖 .A) (𝓜 .mem) (𝓡 .run)) 𝓜 𝓡 code.env #cnt cnt-def.routine code.calls-ledger-sections·registries·section-count (cnt-thm.met 𝓤 H 𝓜 𝓖 𝓡))
     (cited 𝓤 H (Adds 𝓤 H (𝓖 .A) (𝓜 .mem) (𝓡 .run)) 𝓜 𝓡 code.env #add add-def.routine code.calls-ledger-registry-image·registries·size-with (add-thm.met 𝓤 H 𝓜 𝓖 𝓡)))

@@ -5,7 +5,7 @@ use borrow.Author.Needs.{needs}
 use lib.ListN.{length}
 use Rattle.laws.proofs.Views.{length-mapped}
 use Rattle.registry_state.specs.States.{viewRegistry, registryBytes}
-use Rattle.ledger_registry_image.proofs.SectionSizes.{registry-few}
+use Rattle.ledger_sections.proofs.SectionSizes.{registry-few}
 use Rattle.ledger_registry_image.proofs.registries.size_with.Statement.{statement}
 use Rattle.ledger_registry_image.proofs.registries.size_with.Tie as tie
 

@@ -56,9 +56,9 @@ use Rattle.registry_state.specs.States.{readRegistry}
 use Rattle.registry_state.specs.declared.state.RegistryRead.{RegistryRead}
 use Rattle.registry_state.specs.declared.state.RegistryState.{RegistryState}
 use Rattle.ledger_step.specs.Ledgers.{heldOf}
-use Rattle.ledger_registry_image.specs.RegistrySections.{heldRead, Stored}
-use Rattle.ledger_registry_image.proofs.SectionSizes.{blank}
-use Rattle.ledger_registry_image.proofs.SectionReads.{after, after-none, after-more, Facts, at-start, at-turn, at-end}
+use Rattle.ledger_sections.specs.RegistrySections.{heldRead, Stored}
+use Rattle.ledger_sections.proofs.SectionSizes.{blank}
+use Rattle.ledger_sections.proofs.SectionReads.{after, after-none, after-more, Facts, at-start, at-turn, at-end}
 use Rattle.ledger_step.proofs.Turns.{offset-fits, below, there, next-fits, next-is, suc-is, none-passed, last-left}
 use Rattle.codec_cursor.proofs.cursor.Cursor as K
 use Rattle.codec_cursor.proofs.cursor.Cursor.Laws as K′
@@ -70,10 +70,10 @@ use Rattle.ledger_step.proofs.number.lesser as less
 use Rattle.ledger_step.proofs.number.lesser.Symbol as less-def
 use Rattle.ledger_step.proofs.number.lesser.Symbol.{name as #less}
 use Rattle.ledger_step.proofs.number.lesser.Met as less-thm
-use Rattle.ledger_registry_image.proofs.registries.read_next as next
-use Rattle.ledger_registry_image.proofs.registries.read_next.Symbol as next-def
-use Rattle.ledger_registry_image.proofs.registries.read_next.Symbol.{name as #next}
-use Rattle.ledger_registry_image.proofs.registries.read_next.Met as next-thm
+use Rattle.ledger_sections.proofs.registries.read_next as next
+use Rattle.ledger_sections.proofs.registries.read_next.Symbol as next-def
+use Rattle.ledger_sections.proofs.registries.read_next.Symbol.{name as #next}
+use Rattle.ledger_sections.proofs.registries.read_next.Met as next-thm
 use Rattle.ledger_registry_image.proofs.registries.store_registries.Key.{name as #me}
 use Rattle.ledger_registry_image.proofs.registries.store_registries as me
 use Rattle.ledger_registry_image.proofs.registries.store_registries.Statement as stated
@@ -351,4 +351,4 @@ store-registries-spec 𝓤 H 𝓜 𝓖 𝓡 =
     (tables 𝓤 H 𝓜 𝓡 code.env .C) (tables 𝓤 H 𝓜 𝓡 code.env .Λ) #me code.function (code.unfolded 𝓤 H 𝓜 𝓡)
     (me-meets 𝓤 H (𝓖 .A) (givenOf 𝓤 H 𝓜 𝓖) (𝓜 .mem) (𝓡 .run) (tablesOf 𝓤 H 𝓜 (tables 𝓤 H 𝓜 𝓡 code.env))
     (cited 𝓤 H (Lesser 𝓤 H (𝓖 .A) (𝓜 .mem) (𝓡 .run)) 𝓜 𝓡 code.env #less less-def.routine code.calls-ledger-step·number·lesser (less-thm.met 𝓤 H 𝓜 𝓖 𝓡))
-    (cited 𝓤 H (Nexts 𝓤 H (𝓖 .A) (𝓜 .mem) (𝓡 .run)) 𝓜 𝓡 code.env #next next-def.routine code.calls-ledger-registry-image·registries·read-next (next-thm.met 𝓤 H 𝓜 𝓖 𝓡)))
+    (cited 𝓤 H (Nexts 𝓤 H (𝓖 .A) (𝓜 .mem) (𝓡 .run)) 𝓜 𝓡 code.env #next next-def.routine code.calls-ledger-sections·registries·read-next (next-thm.met 𝓤 H 𝓜 𝓖 𝓡)))

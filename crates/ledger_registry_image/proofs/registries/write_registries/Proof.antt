@@ -54,10 +54,10 @@ use denote.Exit.{yes}
 use Rattle.laws.specs.Room.{put}
 use Rattle.registry_state.specs.States.{viewRegistry, registryBytes}
 use Rattle.registry_state.specs.declared.state.RegistryState.{RegistryState}
-use Rattle.ledger_registry_image.specs.RegistrySections.{sectionOf}
+use Rattle.ledger_sections.specs.RegistrySections.{sectionOf}
 use Rattle.ledger_step.proofs.Relend.{Kept, relends, backs}
-use Rattle.ledger_registry_image.proofs.SectionSizes.{blank, sized, sized-none, sized-more}
-use Rattle.ledger_registry_image.proofs.SectionWrites.{following, few-following, headed, wrote, wrote-none, wrote-long, wrote-more, next-room, wrote-all}
+use Rattle.ledger_sections.proofs.SectionSizes.{blank, sized, sized-none, sized-more}
+use Rattle.ledger_sections.proofs.SectionWrites.{following, few-following, headed, wrote, wrote-none, wrote-long, wrote-more, next-room, wrote-all}
 use Rattle.ledger_step.proofs.Turns.{offset-fits, below, there, next-fits, next-is, suc-is, less, none-passed, all-passed, last-left}
 use Rattle.registry_state.proofs.state.RegistryState as T
 use Rattle.registry_state.proofs.state.RegistryState.Laws as T′
@@ -65,10 +65,10 @@ use Rattle.ledger_registry_image.proofs.registries.registries_size as s
 use Rattle.ledger_registry_image.proofs.registries.registries_size.Symbol as size-def
 use Rattle.ledger_registry_image.proofs.registries.registries_size.Symbol.{name as #size}
 use Rattle.ledger_registry_image.proofs.registries.registries_size.Met as size-thm
-use Rattle.ledger_registry_image.proofs.registries.write_head as head
-use Rattle.ledger_registry_image.proofs.registries.write_head.Symbol as head-def
-use Rattle.ledger_registry_image.proofs.registries.write_head.Symbol.{name as #head}
-use Rattle.ledger_registry_image.proofs.registries.write_head.Met as head-thm
+use Rattle.ledger_sections.proofs.registries.write_head as head
+use Rattle.ledger_sections.proofs.registries.write_head.Symbol as head-def
+use Rattle.ledger_sections.proofs.registries.write_head.Symbol.{name as #head}
+use Rattle.ledger_sections.proofs.registries.write_head.Met as head-thm
 use Rattle.ledger_registry_image.proofs.registries.write_next as next
 use Rattle.ledger_registry_image.proofs.registries.write_next.Symbol as next-def
 use Rattle.ledger_registry_image.proofs.registries.write_next.Symbol.{name as #next}
@@ -375,5 +375,5 @@ write-registries-spec 𝓤 H 𝓜 𝓖 𝓡 =
     (tables 𝓤 H 𝓜 𝓡 code.env .C) (tables 𝓤 H 𝓜 𝓡 code.env .Λ) #me code.function (code.unfolded 𝓤 H 𝓜 𝓡)
     (me-meets 𝓤 H (𝓖 .A) (givenOf 𝓤 H 𝓜 𝓖) (𝓜 .mem) (𝓡 .run) (tablesOf 𝓤 H 𝓜 (tables 𝓤 H 𝓜 𝓡 code.env))
     (cited 𝓤 H (Sizes 𝓤 H (𝓖 .A) (𝓜 .mem) (𝓡 .run)) 𝓜 𝓡 code.env #size size-def.routine code.calls-ledger-registry-image·registries·registries-size (size-thm.met 𝓤 H 𝓜 𝓖 𝓡))
-    (cited 𝓤 H (Heads 𝓤 H (𝓖 .A) (𝓜 .mem) (𝓡 .run)) 𝓜 𝓡 code.env #head head-def.routine code.calls-ledger-registry-image·registries·write-head (head-thm.met 𝓤 H 𝓜 𝓖 𝓡))
+    (cited 𝓤 H (Heads 𝓤 H (𝓖 .A) (𝓜 .mem) (𝓡 .run)) 𝓜 𝓡 code.env #head head-def.routine code.calls-ledger-sections·registries·write-head (head-thm.met 𝓤 H 𝓜 𝓖 𝓡))
     (cited 𝓤 H (Nexts 𝓤 H (𝓖 .A) (𝓜 .mem) (𝓡 .run)) 𝓜 𝓡 code.env #next next-def.routine code.calls-ledger-registry-image·registries·write-next (next-thm.met 𝓤 H 𝓜 𝓖 𝓡)))

@@ -69,7 +69,7 @@ use Rattle.ledger_rows.proofs.rows.store_row as st
 use Rattle.ledger_rows.proofs.rows.store_row.Symbol as st-def
 use Rattle.ledger_rows.proofs.rows.store_row.Symbol.{name as #store}
 use Rattle.ledger_rows.proofs.rows.store_row.Met as st-thm
-use Rattle.ledger_row_image.proofs.RowTurns.{read, read-long, read-none, read-more, cursor, cursor-none, cursor-more}
+use Rattle.ledger_sections.proofs.RowTurns.{read, read-long, read-none, read-more, cursor, cursor-none, cursor-more}
 use Rattle.ledger_row_image.proofs.row_image.store_rows.Key.{name as #me}
 use Rattle.ledger_row_image.proofs.row_image.store_rows as me
 use Rattle.ledger_row_image.proofs.row_image.store_rows.Statement as stated

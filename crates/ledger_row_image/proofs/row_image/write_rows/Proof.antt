@@ -65,12 +65,12 @@ use Rattle.ledger_image.proofs.image.write_count.Symbol.{name as #count}
 use Rattle.ledger_image.proofs.image.write_count.Met as co-thm
 use Rattle.ledger_step.proofs.Relend.{Kept, relends, backs}
 use Rattle.ledger_step.proofs.Turns.{offset-fits, all-in, less, suc-is, below, there, next-fits, next-is, none-passed, all-passed, none-left, fails}
-use Rattle.ledger_row_image.specs.RowImages.{writtenRows}
-use Rattle.ledger_row_image.proofs.RowTurns.{at-fits, room-for, next-at-fits, next-at, first-at, count-fits, wrote, wrote-long, wrote-none, wrote-more, fits, enough-rows, enough-room, wrote-all, not-written}
-use Rattle.ledger_row_image.proofs.row_image.section_fits as fi
-use Rattle.ledger_row_image.proofs.row_image.section_fits.Symbol as fi-def
-use Rattle.ledger_row_image.proofs.row_image.section_fits.Symbol.{name as #fits}
-use Rattle.ledger_row_image.proofs.row_image.section_fits.Met as fi-thm
+use Rattle.ledger_sections.specs.RowImages.{writtenRows}
+use Rattle.ledger_sections.proofs.RowTurns.{at-fits, room-for, next-at-fits, next-at, first-at, count-fits, wrote, wrote-long, wrote-none, wrote-more, fits, enough-rows, enough-room, wrote-all, not-written}
+use Rattle.ledger_sections.proofs.rows.section_fits as fi
+use Rattle.ledger_sections.proofs.rows.section_fits.Symbol as fi-def
+use Rattle.ledger_sections.proofs.rows.section_fits.Symbol.{name as #fits}
+use Rattle.ledger_sections.proofs.rows.section_fits.Met as fi-thm
 use Rattle.ledger_row_image.proofs.row_image.write_rows.Key.{name as #me}
 use Rattle.ledger_row_image.proofs.row_image.write_rows as me
 use Rattle.ledger_row_image.proofs.row_image.write_rows.Statement as stated
@@ -357,6 +357,6 @@ write-rows-spec 𝓤 H 𝓜 𝓖 𝓡 =
     entered 𝓤 H (tripleOf 𝓤 H (𝓖 .A) me.signature (me.spec 𝓤 H (𝓖 .A) (𝓜 .mem) (𝓡 .run)))
     (tables 𝓤 H 𝓜 𝓡 code.env .C) (tables 𝓤 H 𝓜 𝓡 code.env .Λ) #me code.function (code.unfolded 𝓤 H 𝓜 𝓡)
     (me-meets 𝓤 H (𝓖 .A) (givenOf 𝓤 H 𝓜 𝓖) (𝓜 .mem) (𝓡 .run) (tablesOf 𝓤 H 𝓜 (tables 𝓤 H 𝓜 𝓡 code.env))
-    (cited 𝓤 H (SectionFits 𝓤 H (𝓖 .A) (𝓜 .mem) (𝓡 .run)) 𝓜 𝓡 code.env #fits fi-def.routine code.calls-ledger-row-image·row-image·section-fits (fi-thm.met 𝓤 H 𝓜 𝓖 𝓡))
+    (cited 𝓤 H (SectionFits 𝓤 H (𝓖 .A) (𝓜 .mem) (𝓡 .run)) 𝓜 𝓡 code.env #fits fi-def.routine code.calls-ledger-sections·rows·section-fits (fi-thm.met 𝓤 H 𝓜 𝓖 𝓡))
     (cited 𝓤 H (WriteCount 𝓤 H (𝓖 .A) (𝓜 .mem) (𝓡 .run)) 𝓜 𝓡 code.env #count co-def.routine code.calls-ledger-image·image·write-count (co-thm.met 𝓤 H 𝓜 𝓖 𝓡))
     (cited 𝓤 H (WriteOne 𝓤 H (𝓖 .A) (𝓜 .mem) (𝓡 .run)) 𝓜 𝓡 code.env #write wr-def.routine code.calls-registry-state·state·CredentialState·write (wr-thm.met 𝓤 H 𝓜 𝓖 𝓡)))

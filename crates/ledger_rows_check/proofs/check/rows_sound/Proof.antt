@@ -52,36 +52,36 @@ use Rattle.registry_state.specs.declared.state.CredentialState.{CredentialState
 use Rattle.ledger_step.specs.Ledgers.{zeroOrOne}
 use Rattle.ledger_step.proofs.Turns.{offset-fits, below, there, here-fits, next-fits, next-is, suc-is, none-passed, all-passed, none-left, fails}
 use Rattle.ledger_rows.specs.Rows.{rowAt, findAt}
-use Rattle.ledger_rows_check.specs.Marking.{noMarks, marking}
-use Rattle.ledger_rows_check.specs.declared.check.Marks.{Marks}
-use Rattle.ledger_rows_check.proofs.Marked.{marksOf}
+use Rattle.ledger_row_rules.specs.Marking.{noMarks, marking}
+use Rattle.ledger_row_rules.specs.declared.marks.Marks.{Marks}
+use Rattle.ledger_row_rules.proofs.Marked.{marksOf}
 use Rattle.ledger_rows_check.proofs.Sound.{Facts, passesAt, passes-same, answer, enough, wrong-size, at-start, at-end, at-bad, at-good}
 use Rattle.cesr.proofs.primitive.Said as S
 use Rattle.cesr.proofs.primitive.Said.Laws as S′
 use Rattle.registry_state.proofs.state.CredentialState as T
 use Rattle.registry_state.proofs.state.CredentialState.Laws as T′
-use Rattle.ledger_rows_check.proofs.check.Marks as K
-use Rattle.ledger_rows_check.proofs.check.Marks.Laws as K′
-use Rattle.ledger_rows_check.proofs.check.right_size as size
-use Rattle.ledger_rows_check.proofs.check.right_size.Symbol as size-def
-use Rattle.ledger_rows_check.proofs.check.right_size.Symbol.{name as #size}
-use Rattle.ledger_rows_check.proofs.check.right_size.Met as size-thm
-use Rattle.ledger_rows_check.proofs.check.no_marks as none
-use Rattle.ledger_rows_check.proofs.check.no_marks.Symbol as none-def
-use Rattle.ledger_rows_check.proofs.check.no_marks.Symbol.{name as #none}
-use Rattle.ledger_rows_check.proofs.check.no_marks.Met as none-thm
-use Rattle.ledger_rows_check.proofs.check.marked as mark
-use Rattle.ledger_rows_check.proofs.check.marked.Symbol as mark-def
-use Rattle.ledger_rows_check.proofs.check.marked.Symbol.{name as #mark}
-use Rattle.ledger_rows_check.proofs.check.marked.Met as mark-thm
+use Rattle.ledger_row_rules.proofs.marks.Marks as K
+use Rattle.ledger_row_rules.proofs.marks.Marks.Laws as K′
+use Rattle.ledger_row_rules.proofs.rules.right_size as size
+use Rattle.ledger_row_rules.proofs.rules.right_size.Symbol as size-def
+use Rattle.ledger_row_rules.proofs.rules.right_size.Symbol.{name as #size}
+use Rattle.ledger_row_rules.proofs.rules.right_size.Met as size-thm
+use Rattle.ledger_row_rules.proofs.marks.no_marks as none
+use Rattle.ledger_row_rules.proofs.marks.no_marks.Symbol as none-def
+use Rattle.ledger_row_rules.proofs.marks.no_marks.Symbol.{name as #none}
+use Rattle.ledger_row_rules.proofs.marks.no_marks.Met as none-thm
+use Rattle.ledger_row_rules.proofs.marks.marked as mark
+use Rattle.ledger_row_rules.proofs.marks.marked.Symbol as mark-def
+use Rattle.ledger_row_rules.proofs.marks.marked.Symbol.{name as #mark}
+use Rattle.ledger_row_rules.proofs.marks.marked.Met as mark-thm
 use Rattle.ledger_rows.proofs.rows.find_at as find
 use Rattle.ledger_rows.proofs.rows.find_at.Symbol as find-def
 use Rattle.ledger_rows.proofs.rows.find_at.Symbol.{name as #find}
 use Rattle.ledger_rows.proofs.rows.find_at.Met as find-thm
-use Rattle.ledger_rows_check.proofs.check.passes as pass
-use Rattle.ledger_rows_check.proofs.check.passes.Symbol as pass-def
-use Rattle.ledger_rows_check.proofs.check.passes.Symbol.{name as #pass}
-use Rattle.ledger_rows_check.proofs.check.passes.Met as pass-thm
+use Rattle.ledger_row_rules.proofs.rules.passes as pass
+use Rattle.ledger_row_rules.proofs.rules.passes.Symbol as pass-def
+use Rattle.ledger_row_rules.proofs.rules.passes.Symbol.{name as #pass}
+use Rattle.ledger_row_rules.proofs.rules.passes.Met as pass-thm
 use Rattle.ledger_rows_check.proofs.check.rows_sound.Key.{name as #me}
 use Rattle.ledger_rows_check.proofs.check.rows_sound as me
 use Rattle.ledger_rows_check.proofs.check.rows_sound.Statement as stated
@@ -395,8 +395,8 @@ rows-sound-spec 𝓤 H 𝓜 𝓖 𝓡 =
     entered 𝓤 H (tripleOf 𝓤 H (𝓖 .A) me.signature (me.spec 𝓤 H (𝓖 .A) (𝓜 .mem) (𝓡 .run)))
     (tables 𝓤 H 𝓜 𝓡 code.env .C) (tables 𝓤 H 𝓜 𝓡 code.env .Λ) #me code.function (code.unfolded 𝓤 H 𝓜 𝓡)
     (me-meets 𝓤 H (𝓖 .A) (givenOf 𝓤 H 𝓜 𝓖) (𝓜 .mem) (𝓡 .run) (tablesOf 𝓤 H 𝓜 (tables 𝓤 H 𝓜 𝓡 code.env))
-    (cited 𝓤 H (RightSize 𝓤 H (𝓖 .A) (𝓜 .mem) (𝓡 .run)) 𝓜 𝓡 code.env #size size-def.routine code.calls-ledger-rows-check·check·right-size (size-thm.met 𝓤 H 𝓜 𝓖 𝓡))
-    (cited 𝓤 H (NoMarks 𝓤 H (𝓖 .A) (𝓜 .mem) (𝓡 .run)) 𝓜 𝓡 code.env #none none-def.routine code.calls-ledger-rows-check·check·no-marks (none-thm.met 𝓤 H 𝓜 𝓖 𝓡))
-    (cited 𝓤 H (Marked 𝓤 H (𝓖 .A) (𝓜 .mem) (𝓡 .run)) 𝓜 𝓡 code.env #mark mark-def.routine code.calls-ledger-rows-check·check·marked (mark-thm.met 𝓤 H 𝓜 𝓖 𝓡))
+    (cited 𝓤 H (RightSize 𝓤 H (𝓖 .A) (𝓜 .mem) (𝓡 .run)) 𝓜 𝓡 code.env #size size-def.routine code.calls-ledger-row-rules·rules·right-size (size-thm.met 𝓤 H 𝓜 𝓖 𝓡))
+    (cited 𝓤 H (NoMarks 𝓤 H (𝓖 .A) (𝓜 .mem) (𝓡 .run)) 𝓜 𝓡 code.env #none none-def.routine code.calls-ledger-row-rules·marks·no-marks (none-thm.met 𝓤 H 𝓜 𝓖 𝓡))
+    (cited 𝓤 H (Marked 𝓤 H (𝓖 .A) (𝓜 .mem) (𝓡 .run)) 𝓜 𝓡 code.env #mark mark-def.routine code.calls-ledger-row-rules·marks·marked (mark-thm.met 𝓤 H 𝓜 𝓖 𝓡))
     (cited 𝓤 H (FindAt 𝓤 H (𝓖 .A) (𝓜 .mem) (𝓡 .run)) 𝓜 𝓡 code.env #find find-def.routine code.calls-ledger-rows·rows·find-at (find-thm.met 𝓤 H 𝓜 𝓖 𝓡))
-    (cited 𝓤 H (Passes 𝓤 H (𝓖 .A) (𝓜 .mem) (𝓡 .run)) 𝓜 𝓡 code.env #pass pass-def.routine code.calls-ledger-rows-check·check·passes (pass-thm.met 𝓤 H 𝓜 𝓖 𝓡)))
+    (cited 𝓤 H (Passes 𝓤 H (𝓖 .A) (𝓜 .mem) (𝓡 .run)) 𝓜 𝓡 code.env #pass pass-def.routine code.calls-ledger-row-rules·rules·passes (pass-thm.met 𝓤 H 𝓜 𝓖 𝓡)))

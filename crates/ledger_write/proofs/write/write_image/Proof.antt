@@ -52,15 +52,15 @@ use Rattle.ledger_step.specs.Ledgers.{lentLedger, sound}
 use Rattle.ledger_image.specs.Images.{writtenOf}
 use Rattle.ledger_step.proofs.Relend.{Kept, relends, backs}
 use Rattle.ledger_step.proofs.Turns.{fails}
-use Rattle.ledger_row_image.specs.RowImages.{writtenRows}
-use Rattle.ledger_write.specs.Writes.{viewWritten}
-use Rattle.ledger_write.specs.declared.write.Written.{Written as Answer}
+use Rattle.ledger_sections.specs.RowImages.{writtenRows}
+use Rattle.ledger_written.specs.Writes.{viewWritten}
+use Rattle.ledger_written.specs.declared.answer.Written.{Written as Answer}
 use Rattle.ledger_write.proofs.PartLent.{KeptPart, part-lends, part-backs, byte-start}
-use Rattle.ledger_write.proofs.ImageWrites.{first, answer, headed, rest, part, last, refused-all, written-all, first-fits, headed-long, part-long, last-long}
+use Rattle.ledger_written.proofs.ImageWrites.{first, answer, headed, rest, part, last, refused-all, written-all, first-fits, headed-long, part-long, last-long}
 use Rattle.registry_state.proofs.state.RegistryState as G
 use Rattle.registry_state.proofs.state.CredentialState as T
-use Rattle.ledger_write.proofs.write.Written as P
-use Rattle.ledger_write.proofs.write.Written.Laws as P′
+use Rattle.ledger_written.proofs.answer.Written as P
+use Rattle.ledger_written.proofs.answer.Written.Laws as P′
 use Rattle.ledger_check.proofs.check.sound as check
 use Rattle.ledger_check.proofs.check.sound.Symbol as check-def
 use Rattle.ledger_check.proofs.check.sound.Symbol.{name as #check}
@@ -69,14 +69,14 @@ use Rattle.ledger_registry_image.proofs.registries.registries_size as size
 use Rattle.ledger_registry_image.proofs.registries.registries_size.Symbol as size-def
 use Rattle.ledger_registry_image.proofs.registries.registries_size.Symbol.{name as #size}
 use Rattle.ledger_registry_image.proofs.registries.registries_size.Met as size-thm
-use Rattle.ledger_write.proofs.write.writing as decide
-use Rattle.ledger_write.proofs.write.writing.Symbol as decide-def
-use Rattle.ledger_write.proofs.write.writing.Symbol.{name as #decide}
-use Rattle.ledger_write.proofs.write.writing.Met as decide-thm
-use Rattle.ledger_write.proofs.write.is_refused as test
-use Rattle.ledger_write.proofs.write.is_refused.Symbol as test-def
-use Rattle.ledger_write.proofs.write.is_refused.Symbol.{name as #test}
-use Rattle.ledger_write.proofs.write.is_refused.Met as test-thm
+use Rattle.ledger_written.proofs.answer.writing as decide
+use Rattle.ledger_written.proofs.answer.writing.Symbol as decide-def
+use Rattle.ledger_written.proofs.answer.writing.Symbol.{name as #decide}
+use Rattle.ledger_written.proofs.answer.writing.Met as decide-thm
+use Rattle.ledger_written.proofs.answer.is_refused as test
+use Rattle.ledger_written.proofs.answer.is_refused.Symbol as test-def
+use Rattle.ledger_written.proofs.answer.is_refused.Symbol.{name as #test}
+use Rattle.ledger_written.proofs.answer.is_refused.Met as test-thm
 use Rattle.ledger_registry_image.proofs.registries.write_registries as put
 use Rattle.ledger_registry_image.proofs.registries.write_registries.Symbol as put-def
 use Rattle.ledger_registry_image.proofs.registries.write_registries.Symbol.{name as #put}
@@ -442,7 +442,7 @@ write-image-spec 𝓤 H 𝓜 𝓖 𝓡 =
     (me-meets 𝓤 H (𝓖 .A) (givenOf 𝓤 H 𝓜 𝓖) (𝓜 .mem) (𝓡 .run) (tablesOf 𝓤 H 𝓜 (tables 𝓤 H 𝓜 𝓡 code.env))
     (cited 𝓤 H (Sound 𝓤 H (𝓖 .A) (𝓜 .mem) (𝓡 .run)) 𝓜 𝓡 code.env #check check-def.routine code.calls-ledger-check·check·sound (check-thm.met 𝓤 H 𝓜 𝓖 𝓡))
     (cited 𝓤 H (Sizes 𝓤 H (𝓖 .A) (𝓜 .mem) (𝓡 .run)) 𝓜 𝓡 code.env #size size-def.routine code.calls-ledger-registry-image·registries·registries-size (size-thm.met 𝓤 H 𝓜 𝓖 𝓡))
-    (cited 𝓤 H (Writing 𝓤 H (𝓖 .A) (𝓜 .mem) (𝓡 .run)) 𝓜 𝓡 code.env #decide decide-def.routine code.calls-ledger-write·write·writing (decide-thm.met 𝓤 H 𝓜 𝓖 𝓡))
-    (cited 𝓤 H (IsRefused 𝓤 H (𝓖 .A) (𝓜 .mem) (𝓡 .run)) 𝓜 𝓡 code.env #test test-def.routine code.calls-ledger-write·write·is-refused (test-thm.met 𝓤 H 𝓜 𝓖 𝓡))
+    (cited 𝓤 H (Writing 𝓤 H (𝓖 .A) (𝓜 .mem) (𝓡 .run)) 𝓜 𝓡 code.env #decide decide-def.routine code.calls-ledger-written·answer·writing (decide-thm.met 𝓤 H 𝓜 𝓖 𝓡))
+    (cited 𝓤 H (IsRefused 𝓤 H (𝓖 .A) (𝓜 .mem) (𝓡 .run)) 𝓜 𝓡 code.env #test test-def.routine code.calls-ledger-written·answer·is-refused (test-thm.met 𝓤 H 𝓜 𝓖 𝓡))
     (cited 𝓤 H (WriteRegistries 𝓤 H (𝓖 .A) (𝓜 .mem) (𝓡 .run)) 𝓜 𝓡 code.env #put put-def.routine code.calls-ledger-registry-image·registries·write-registries (put-thm.met 𝓤 H 𝓜 𝓖 𝓡))
     (cited 𝓤 H (WriteRows 𝓤 H (𝓖 .A) (𝓜 .mem) (𝓡 .run)) 𝓜 𝓡 code.env #fill fill-def.routine code.calls-ledger-row-image·row-image·write-rows (fill-thm.met 𝓤 H 𝓜 𝓖 𝓡)))

@@ -1,4 +1,0 @@
-pub mod SectionSizes
-pub mod SectionWrites
-pub mod SectionReads
-pub mod SectionHeld

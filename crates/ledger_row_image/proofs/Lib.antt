@@ -1,2 +1,0 @@
-pub mod RowSections
-pub mod RowTurns

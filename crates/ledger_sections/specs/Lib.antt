@@ -1,0 +1,2 @@
+pub mod RegistrySections
+pub mod RowImages

@@ -1,0 +1,2 @@
+// The standing of a credential, on values (docs/RULES.md, "Look-up").
+pub mod lookup;
