@@ -1,5 +1,5 @@
 // An event: its kind byte, then six sections by kind (docs/RULES.md, "Bytes").
-use cesr::number::Sn;
+use cesr_sn::number::Sn;
 use codec::section::pass_prefixes;
 use codec::section::read_configs;
 use codec::section::read_toad;

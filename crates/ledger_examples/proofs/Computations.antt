@@ -4,7 +4,7 @@ use mathlib.Core.Bool.{true}
 use mathlib.Core.List.{[], _∷_}
 use Rattle.laws.specs.First.{first}
 use Rattle.laws.specs.Count.{count}
-use Rattle.cesr.specs.Numbers.{value, snOf}
+use Rattle.cesr_sn.specs.Numbers.{value, snOf}
 use Rattle.cesr.specs.Primitives.{eqMatter, isBasic, isSaid}
 use Rattle.events.specs.Members.{checkMembers, checkDeltas, checkCurrent, check, breaks, has as hasMember}
 use Rattle.events_toad.specs.Toads.{exactOk}

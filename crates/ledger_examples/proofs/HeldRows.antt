@@ -11,7 +11,7 @@ use borrow.Author.Tests.{leb-true, eq-eqb, ne-eqb}
 use lib.Dec.{eqb, lit<}
 use lib.ListN.{length}
 use Rattle.laws.specs.First.{first}
-use Rattle.cesr.specs.Numbers.{value}
+use Rattle.cesr_sn.specs.Numbers.{value}
 use Rattle.cesr.specs.Primitives.{eqMatter, isSaid}
 use Rattle.events.specs.Members.{checkMembers, check}
 use Rattle.events_toad.specs.Toads.{exactOk}

@@ -16,7 +16,7 @@ use lib.ListN.{length}
 use Rattle.laws.specs.Number.{numberAt}
 use Rattle.laws.proofs.Number.{whole-number}
 use Rattle.laws.proofs.Room.{true-room}
-use Rattle.cesr.specs.Numbers.{value}
+use Rattle.cesr_sn.specs.Numbers.{value}
 use Rattle.cesr.specs.Primitives.{eqSaid, isSaid, readMatter, eqMatter}
 use Rattle.cesr.specs.declared.primitive.Matter.{Matter}
 use Rattle.cesr.specs.declared.primitive.Said.{Said}

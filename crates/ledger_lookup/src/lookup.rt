@@ -1,6 +1,6 @@
 // The standing of a credential, by its key (docs/RULES.md, "Look-up").
-use cesr::number::Sn;
 use cesr::primitive::Said;
+use cesr_sn::number::Sn;
 use ledger_check::check::sound;
 use ledger_rows::rows::find_at;
 use ledger_rows::rows::read_row;
@@ -9,7 +9,7 @@ use registry_state::state::RegistryState;
 ghost use mathlib.Core.Path.{_≡_};
 ghost use mathlib.Core.Bool.{_&&_};
 ghost use lib.Dec.{eqb, ltb};
-ghost use Rattle.cesr.specs.Numbers.{value};
+ghost use Rattle.cesr_sn.specs.Numbers.{value};
 ghost use Rattle.ledger_step.specs.Ledgers.{lentLedger, sound, wellPair, lookUp};
 ghost use Rattle.ledger_lookup.specs.Lookups.{viewLookedUp, keyPair, lookedUpOf};
 

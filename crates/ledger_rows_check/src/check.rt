@@ -1,6 +1,6 @@
 // The check of all rows that are lent (docs/RULES.md, "Reading rules").
-use cesr::number::Sn;
 use cesr::primitive::Said;
+use cesr_sn::number::Sn;
 use ledger_rows::rows::find_at;
 use registry_state::state::CredentialState;
 ghost use mathlib.Core.Path.{_≡_};

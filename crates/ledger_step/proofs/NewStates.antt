@@ -5,7 +5,7 @@
 use mathlib.Core.Path.{_≡_, refl}
 use mathlib.Core.Bool.{Bool, true, false, cond, _&&_, false≢true}
 use Rattle.laws.proofs.Tests.{and-left, and-right}
-use Rattle.cesr.specs.Numbers.{value}
+use Rattle.cesr_sn.specs.Numbers.{value}
 use Rattle.cesr.specs.Primitives.{eqSaid, isSaid}
 use Rattle.cesr.specs.declared.primitive.Said.{Said}
 use Rattle.cesr.proofs.Matters.{said-eq}

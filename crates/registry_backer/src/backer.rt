@@ -1,6 +1,6 @@
 // The authority of a bis or brv, and its receipts (docs/RULES.md, "Evidence", "Receipts").
-use cesr::number::Sn;
 use cesr::primitive::Said;
+use cesr_sn::number::Sn;
 use codec_cursor::cursor::Cursor;
 use events::member_set::MemberSet;
 use events::member_set::Members;

@@ -1,6 +1,6 @@
 // The fold of a credential's next event, its revocation (docs/RULES.md, "Orders", "Next states").
-use cesr::number::Sn;
 use cesr::primitive::Said;
+use cesr_sn::number::Sn;
 use events_tel::tel::Kind;
 use registry_answer::answer::accept_if;
 use registry_answer::answer::accepts;

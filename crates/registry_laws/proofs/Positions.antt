@@ -7,8 +7,8 @@ use mathlib.Core.Path.{_≡_, refl}
 use mathlib.Core.List.{List, [], _∷_}
 use mathlib.Core.Bool.{_&&_}
 use lib.Dec.{eqb}
-use Rattle.cesr.specs.Numbers.{value}
-use Rattle.cesr.specs.declared.number.Sn.{Sn}
+use Rattle.cesr_sn.specs.Numbers.{value}
+use Rattle.cesr_sn.specs.declared.number.Sn.{Sn}
 use Rattle.cesr.specs.declared.primitive.Matter.{Matter}
 use Rattle.cesr.specs.declared.primitive.Said.{Said}
 use Rattle.cesr.specs.declared.primitive.BasicPrefix.{BasicPrefix}

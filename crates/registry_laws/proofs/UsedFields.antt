@@ -6,7 +6,7 @@ use mathlib.Core.Logic.{_≢_}
 use mathlib.Core.List.{List}
 use mathlib.Core.Bool.{cond, _&&_}
 use Rattle.cesr.specs.Primitives.{eqMatter}
-use Rattle.cesr.specs.declared.number.Sn.{Sn}
+use Rattle.cesr_sn.specs.declared.number.Sn.{Sn}
 use Rattle.cesr.specs.declared.primitive.Said.{Said}
 use Rattle.events_seal.specs.Identifiers.{matterOf}
 use Rattle.events_tel.specs.TelEvents.{Event}

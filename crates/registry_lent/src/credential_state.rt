@@ -1,6 +1,6 @@
 // The fold of a credential whose state is lent: the state is taken apart and folded by value, and what may change of it is stored.
-use cesr::number::Sn;
 use cesr::primitive::Said;
+use cesr_sn::number::Sn;
 use registry_credential_state::credential_state::ingest;
 use registry_error::error::Answer;
 use registry_state::state::CredentialState;

@@ -23,7 +23,7 @@ use Rattle.codec_cursor.specs.Readers.{Read, placed, isIdentifier}
 use Rattle.codec.specs.Events.{isConfig}
 use Rattle.codec.specs.Layout.{all, isMatter, goodSaid, goodIdentifier, goodSn, goodToad, goodConfigs, goodPrefix, goodPrefixes}
 use Rattle.codec_laws.proofs.CodesRound.{codes-back, codes-again}
-use Rattle.cesr.specs.declared.number.Sn.{Sn}
+use Rattle.cesr_sn.specs.declared.number.Sn.{Sn}
 use Rattle.cesr.specs.declared.primitive.Matter.{Matter}
 use Rattle.cesr.specs.declared.primitive.Said.{Said}
 use Rattle.cesr.specs.declared.primitive.BasicPrefix.{BasicPrefix}

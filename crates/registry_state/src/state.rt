@@ -1,7 +1,7 @@
 // States of registries and credentials. They hold numbers alone, since a host lends them as memory and every pattern of bits has to be a value.
-use cesr::number::Sn;
 use cesr::primitive::Matter;
 use cesr::primitive::Said;
+use cesr_sn::number::Sn;
 use codec::section::pass_prefixes;
 use codec::section::read_configs;
 use codec::section::read_prefixes;

@@ -1,6 +1,6 @@
 // The place of a revocation behind the held state of its credential (docs/RULES.md, "Orders").
-use cesr::number::Sn;
 use cesr::primitive::Said;
+use cesr_sn::number::Sn;
 use registry_answer::answer::accept_if;
 use registry_answer::answer::or_else;
 use registry_error::error::Answer;

@@ -1,6 +1,6 @@
 use mathlib.Core.Path.{_∙_}
 use borrow.Author.Needs.{needs}
-use Rattle.cesr.specs.Numbers.{value}
+use Rattle.cesr_sn.specs.Numbers.{value}
 use Rattle.ledger_lookup.proofs.Found.{zero-below}
 use Rattle.ledger_lookup.proofs.lookup.is_issued.Statement.{statement}
 use Rattle.ledger_lookup.proofs.lookup.is_issued.Tie as tie

@@ -48,7 +48,7 @@ use Rattle.registry_credential_state.specs.CredentialFolds.{ingestOf}
 use Rattle.registry_lent.specs.Lent.{changesOf}
 use Rattle.registry_lent.specs.declared.credential_state.Changes.{Changes}
 use Rattle.registry_lent.proofs.Kept.{stored, kept}
-use Rattle.cesr.proofs.number.Sn.Laws as N
+use Rattle.cesr_sn.proofs.number.Sn.Laws as N
 use Rattle.cesr.proofs.primitive.Said.Laws as D
 use Rattle.registry_state.proofs.state.RegistryState as G
 use Rattle.registry_state.proofs.state.RegistryState.Laws as G′

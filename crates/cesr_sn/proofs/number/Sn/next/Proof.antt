@@ -1,9 +1,9 @@
 use native.Mathlib.Omega.{arith}
 use borrow.Author.Needs.{needs}
-use Rattle.cesr.specs.Numbers.{value}
-use Rattle.cesr.proofs.Words.{next-low, next-carry, next-round}
-use Rattle.cesr.proofs.number.Sn.next.Statement.{statement}
-use Rattle.cesr.proofs.number.Sn.next.Tie as tie
+use Rattle.cesr_sn.specs.Numbers.{value}
+use Rattle.cesr_sn.proofs.Words.{next-low, next-carry, next-round}
+use Rattle.cesr_sn.proofs.number.Sn.next.Statement.{statement}
+use Rattle.cesr_sn.proofs.number.Sn.next.Tie as tie
 
 add-t3 : tie.Need-add-t3
 add-t3 c = search needs

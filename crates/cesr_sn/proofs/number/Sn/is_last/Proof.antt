@@ -1,9 +1,9 @@
 use native.Mathlib.Omega.{arith}
 use lib.Dec.{lit<}
-use Rattle.cesr.specs.Numbers.{value}
-use Rattle.cesr.proofs.Words.{words-eqb}
-use Rattle.cesr.proofs.number.Sn.is_last.Statement.{statement}
-use Rattle.cesr.proofs.number.Sn.is_last.Tie as tie
+use Rattle.cesr_sn.specs.Numbers.{value}
+use Rattle.cesr_sn.proofs.Words.{words-eqb}
+use Rattle.cesr_sn.proofs.number.Sn.is_last.Statement.{statement}
+use Rattle.cesr_sn.proofs.number.Sn.is_last.Tie as tie
 
 returns : tie.Need-returns
 unfolding value

@@ -15,8 +15,8 @@ use lib.Dec.{eqb, ltb, leb, lit<}
 use lib.ListN.{length}
 use Rattle.laws.specs.Number.{number, digits}
 use Rattle.laws.proofs.Number.{number-split, digits-split, digits-rest, read-whole, read-none}
-use Rattle.cesr.specs.declared.number.Sn.{Sn}
-use Rattle.cesr.specs.Numbers.{value, snOf, readSn, snBytes}
+use Rattle.cesr_sn.specs.declared.number.Sn.{Sn}
+use Rattle.cesr_sn.specs.Numbers.{value, snOf, readSn, snBytes}
 
 -- both words are words
 pub record Fit (n : Sn) : Type 0 where

@@ -1,8 +1,8 @@
 use native.Mathlib.Omega.{arith}
-use Rattle.cesr.specs.Numbers.{value}
-use Rattle.cesr.proofs.Words.{words-eqb}
-use Rattle.cesr.proofs.number.Sn.same.Statement.{statement}
-use Rattle.cesr.proofs.number.Sn.same.Tie as tie
+use Rattle.cesr_sn.specs.Numbers.{value}
+use Rattle.cesr_sn.proofs.Words.{words-eqb}
+use Rattle.cesr_sn.proofs.number.Sn.same.Statement.{statement}
+use Rattle.cesr_sn.proofs.number.Sn.same.Tie as tie
 
 returns : tie.Need-returns
 unfolding value
