@@ -2,8 +2,8 @@
 use cesr::primitive::Said;
 use cesr_sn::number::Sn;
 use codec_cursor::cursor::Cursor;
-use events::member_set::MemberSet;
 use events::member_set::Members;
+use events_member_set::member_set::MemberSet;
 use events_seal::seal::Seal;
 use events_toad::toad::Toad;
 use registry_answer::answer::accept_if;

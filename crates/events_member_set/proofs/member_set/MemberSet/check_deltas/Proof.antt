@@ -1,11 +1,11 @@
 use borrow.Author.Needs.{needs}
 use mathlib.Core.Path.{_≡_, refl, _∙_}
 use mathlib.Core.List.{[]}
 use Rattle.events.specs.declared.member_set.Rule.the-variants.{DuplicateCut, DuplicateAddition}
 use Rattle.events.specs.Members.{view, check, checkDeltas}
 use Rattle.events.proofs.Members.{repeat-alone, deltas-offends}
-use Rattle.events.proofs.member_set.MemberSet.check_deltas.Statement.{statement}
-use Rattle.events.proofs.member_set.MemberSet.check_deltas.Tie as tie
+use Rattle.events_member_set.proofs.member_set.MemberSet.check_deltas.Statement.{statement}
+use Rattle.events_member_set.proofs.member_set.MemberSet.check_deltas.Tie as tie
 
 check-rule-requires : tie.Need-check-rule-requires
 check-rule-requires c κs = (refl, refl)

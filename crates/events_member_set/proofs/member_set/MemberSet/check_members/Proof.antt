@@ -1,10 +1,10 @@
 use mathlib.Core.Path.{_≡_, refl, _∙_}
 use mathlib.Core.List.{[]}
 use Rattle.events.specs.declared.member_set.Rule.the-variants.{DuplicateBacker}
 use Rattle.events.specs.Members.{view, checkMembers}
 use Rattle.events.proofs.Members.{repeat-alone, members-offends}
-use Rattle.events.proofs.member_set.MemberSet.check_members.Statement.{statement}
-use Rattle.events.proofs.member_set.MemberSet.check_members.Tie as tie
+use Rattle.events_member_set.proofs.member_set.MemberSet.check_members.Statement.{statement}
+use Rattle.events_member_set.proofs.member_set.MemberSet.check_members.Tie as tie
 
 check-rule-requires : tie.Need-check-rule-requires
 check-rule-requires c κs = (refl, refl)

@@ -1,9 +1,9 @@
 use borrow.Author.Needs.{needs}
 use mathlib.Core.Path.{_≡_, refl}
 use Rattle.events.specs.Members.{view, checkCurrent}
 use Rattle.events.proofs.Members.{current-offends}
-use Rattle.events.proofs.member_set.MemberSet.check_current.Statement.{statement}
-use Rattle.events.proofs.member_set.MemberSet.check_current.Tie as tie
+use Rattle.events_member_set.proofs.member_set.MemberSet.check_current.Statement.{statement}
+use Rattle.events_member_set.proofs.member_set.MemberSet.check_current.Tie as tie
 
 check-rule-requires : tie.Need-check-rule-requires
 check-rule-requires c κs = (refl, refl)

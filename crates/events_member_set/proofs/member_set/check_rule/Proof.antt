@@ -6,10 +6,10 @@ use native.Mathlib.Omega.{arith}
 use borrow.Author.Count.{below-more}
 use lib.ListN.{length, take}
 use Rattle.laws.proofs.Views.{length-mapped}
 use Rattle.events.specs.Members.{view, has, breaks}
 use Rattle.events.proofs.Members.{view-at, until-within, held-step, held-breaks, check-found, all-sound}
-use Rattle.events.proofs.member_set.check_rule.Statement.{statement}
-use Rattle.events.proofs.member_set.check_rule.Tie as tie
+use Rattle.events_member_set.proofs.member_set.check_rule.Statement.{statement}
+use Rattle.events_member_set.proofs.member_set.check_rule.Tie as tie
 
 abbrev Inv-loop2 : tie.InvT-loop2
 Inv-loop2 rule repeat missing list other n m i x end found₀ j₀ found j = (j ≤ end) × (found ≡ has x (take j (cond repeat (view list) (view other))))
