@@ -1,8 +1,8 @@
 use Rattle.codec_cursor.specs.Readers.{readIf, readSaid}
 use Rattle.codec.specs.Events.{readVrt}
 use borrow.Author.Needs.{needs}
-use Rattle.codec_tel.proofs.tel.read_vrt.Statement.{statement}
-use Rattle.codec_tel.proofs.tel.read_vrt.Tie as tie
+use Rattle.codec_tel_registry.proofs.tel.read_vrt.Statement.{statement}
+use Rattle.codec_tel_registry.proofs.tel.read_vrt.Tie as tie
 
 count-requires : tie.Need-count-requires
 count-requires c κs = search needs

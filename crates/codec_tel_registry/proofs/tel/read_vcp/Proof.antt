@@ -1,8 +1,8 @@
 use Rattle.codec_cursor.specs.Readers.{readIdentifier, readIf, readSaid}
 use Rattle.codec.specs.Events.{readVcp}
 use borrow.Author.Needs.{needs}
-use Rattle.codec_tel.proofs.tel.read_vcp.Statement.{statement}
-use Rattle.codec_tel.proofs.tel.read_vcp.Tie as tie
+use Rattle.codec_tel_registry.proofs.tel.read_vcp.Statement.{statement}
+use Rattle.codec_tel_registry.proofs.tel.read_vcp.Tie as tie
 
 count-requires : tie.Need-count-requires
 count-requires c κs = search needs
