@@ -7,7 +7,8 @@ use mathlib.Core.Bool.{Bool, true, false, cond, _&&_}
 use mathlib.Core.List.{List}
 use lib.ListN.{replicate}
 use Rattle.laws.specs.Words.{sameList}
-use Rattle.registry_state.specs.States.{viewRegistry, credentialBytes, wellRegistry}
+use Rattle.registry_state.specs.States.{viewRegistry, wellRegistry}
+use Rattle.registry_state_credential.specs.CredentialStates.{credentialBytes}
 use Rattle.registry_answer.specs.Answers.{accepts}
 use Rattle.registry_issue.specs.declared.credential_state.CredentialOutcome.{CredentialOutcome}
 use Rattle.registry_issue.specs.IssueFolds.{Outcome, inceptOf, viewOutcome}

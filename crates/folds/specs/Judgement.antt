@@ -10,8 +10,9 @@ use Rattle.cesr.specs.Primitives.{isSaid}
 use Rattle.codec_cursor.specs.Readers.{Read, starting, isIdentifier}
 use Rattle.codec.specs.Events.{isConfig}
 use Rattle.codec.specs.Layout.{all}
-use Rattle.registry_state.specs.States.{Registry, viewRegistry, registryBytes, credentialBytes, readRegistry, readCredential, isBacker, wellCredential, noCredential}
-use Rattle.registry_state.specs.declared.state.CredentialState.{CredentialState}
+use Rattle.registry_state.specs.States.{Registry, viewRegistry, registryBytes, readRegistry, isBacker}
+use Rattle.registry_state_credential.specs.CredentialStates.{credentialBytes, readCredential, wellCredential, noCredential}
+use Rattle.registry_state_credential.specs.declared.state.CredentialState.{CredentialState}
 use Rattle.registry_wire.specs.Attempts.{decodeOf}
 use Rattle.registry_error.specs.declared.error.RegistryRejection.the-variants.{Malformed}
 use Rattle.registry_error.specs.declared.error.Answer.the-variants.{Rejected}

@@ -9,11 +9,11 @@ use registry_answer::answer::accepts;
 use registry_credential_state::credential_state::ingest;
 use registry_issue::credential_state::CredentialOutcome;
 use registry_issue::credential_state::incept;
-use registry_state::state::CredentialState;
+use registry_state_credential::state::CredentialState;
 ghost use mathlib.Core.Path.{_≡_};
 ghost use mathlib.Core.Bool.{cond};
 ghost use Rattle.laws.specs.Words.{sameList};
-ghost use Rattle.registry_state.specs.States.{credentialBytes};
+ghost use Rattle.registry_state_credential.specs.CredentialStates.{credentialBytes};
 ghost use Rattle.registry_answer.specs.Answers.{accepts};
 ghost use Rattle.folds.specs.Judgement.{judgeIssue, judgeRevoke};
 

@@ -6,9 +6,10 @@ use mathlib.Core.Path.{_≡_, refl}
 use mathlib.Core.Bool.{Bool, true, false, _&&_}
 use mathlib.Core.List.{List}
 use mathlib.Core.Option.{Option, none, some}
-use Rattle.registry_state.specs.States.{Registry, viewRegistry, wellRegistry, wellCredential}
+use Rattle.registry_state.specs.States.{Registry, viewRegistry, wellRegistry}
+use Rattle.registry_state_credential.specs.CredentialStates.{wellCredential}
 use Rattle.registry_state.specs.declared.state.RegistryState.{RegistryState}
-use Rattle.registry_state.specs.declared.state.CredentialState.{CredentialState}
+use Rattle.registry_state_credential.specs.declared.state.CredentialState.{CredentialState}
 use Rattle.registry_issue.specs.IssueFolds as I
 use Rattle.registry_credential_state.specs.CredentialFolds as W
 use Rattle.host_next.specs.ByteFolds.{registryIn, credentialFolded, noState}

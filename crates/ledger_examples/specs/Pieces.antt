@@ -12,7 +12,7 @@ use Rattle.events_tel.specs.TelEvents.Event.{vcp, vrt, iss, rev, bis}
 use Rattle.events_seal.specs.declared.identifier.Identifier.the-variants.{SelfAddressing}
 use Rattle.events_seal.specs.declared.seal.Seal.the-variants.{Event as EventSeal}
 use Rattle.registry_state.specs.States.{Registry}
-use Rattle.registry_state.specs.declared.state.CredentialState.{CredentialState}
+use Rattle.registry_state_credential.specs.declared.state.CredentialState.{CredentialState}
 use Rattle.registry_wire.specs.Attempts.{Evidence, Message}
 use Rattle.registry_wire.specs.Attempts.Evidence.{issuer, backer}
 use Rattle.ledger_step.specs.Ledgers.{Ledger}

@@ -26,8 +26,8 @@ use Rattle.codec.specs.Layout.{all}
 use Rattle.codec_laws.proofs.Stands.{went, passed}
 use Rattle.codec_laws.proofs.Codes.{and-true}
 use Rattle.codec_laws.proofs.CodesList.{all-snoc}
-use Rattle.registry_state.specs.States.{readCredential, wellCredential}
-use Rattle.registry_state.specs.declared.state.CredentialState.{CredentialState}
+use Rattle.registry_state_credential.specs.CredentialStates.{readCredential, wellCredential}
+use Rattle.registry_state_credential.specs.declared.state.CredentialState.{CredentialState}
 use Rattle.registry_laws.specs.Pairs.{Pair, keyOf}
 use Rattle.ledger_step.specs.Tables.{has, distinct}
 use Rattle.ledger_step.specs.Ledgers.{eqPair, hasRegistry, zeroOrOne}

@@ -2,7 +2,7 @@
 use codec_cursor::cursor::Cursor;
 use ledger_image::image::write_count;
 use ledger_rows::rows::store_row;
-use registry_state::state::CredentialState;
+use registry_state_credential::state::CredentialState;
 ghost use mathlib.Core.Path.{_≡_};
 ghost use mathlib.Core.Bool.{_&&_};
 ghost use Prim.Native.Nat.{_+_, _*_};

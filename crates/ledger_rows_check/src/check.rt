@@ -2,13 +2,13 @@
 use cesr::primitive::Said;
 use cesr_sn::number::Sn;
 use ledger_rows::rows::find_at;
-use registry_state::state::CredentialState;
+use registry_state_credential::state::CredentialState;
 ghost use mathlib.Core.Path.{_≡_};
 ghost use mathlib.Core.Bool.{_&&_, cond};
 ghost use lib.ListN.{length, take};
 ghost use lib.Dec.{eqb, leb};
 ghost use lib.Bits.{bitAnd};
-ghost use Rattle.registry_state.specs.States.{wellCredential};
+ghost use Rattle.registry_state_credential.specs.CredentialStates.{wellCredential};
 ghost use Rattle.ledger_step.specs.Ledgers.{zeroOrOne, holds, rowRules};
 ghost use Rattle.ledger_rows_check.specs.Marking.{noMarks, marking};
 

@@ -11,9 +11,10 @@ use Rattle.events_tel.specs.TelEvents.{eventAs}
 use Rattle.events_tel.specs.declared.tel.Kind.{Kind}
 use Rattle.events_tel.specs.declared.tel.Kind.the-variants.{Vcp, Vrt, Iss, Rev, Bis, Brv}
 use Rattle.events_tel.specs.declared.tel.TelEvent.{TelEvent}
-use Rattle.registry_state.specs.States.{Registry, viewRegistry, wellRegistry, wellCredential}
+use Rattle.registry_state.specs.States.{Registry, viewRegistry, wellRegistry}
+use Rattle.registry_state_credential.specs.CredentialStates.{wellCredential}
 use Rattle.registry_state.specs.declared.state.RegistryState.{RegistryState}
-use Rattle.registry_state.specs.declared.state.CredentialState.{CredentialState}
+use Rattle.registry_state_credential.specs.declared.state.CredentialState.{CredentialState}
 use Rattle.registry_wire.specs.Attempts.{Message, viewAttempt, viewDecoded, decodeOf}
 use Rattle.registry_wire.specs.declared.attempt.DecodedAttempt.{DecodedAttempt}
 use Rattle.registry_authentication.proofs.AnchorUse.{judged-decoded, judged-malformed}

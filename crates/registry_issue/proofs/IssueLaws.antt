@@ -6,9 +6,10 @@ use Prim.Native.Nat.{ℕ}
 use mathlib.Core.Path.{_≡_, refl}
 use mathlib.Core.List.{List}
 use mathlib.Core.Bool.{true, false, cond, _&&_}
-use Rattle.registry_state.specs.States.{Registry, viewRegistry, wellRegistry, noCredential}
+use Rattle.registry_state.specs.States.{Registry, viewRegistry, wellRegistry}
+use Rattle.registry_state_credential.specs.CredentialStates.{noCredential}
 use Rattle.registry_state.specs.declared.state.RegistryState.{RegistryState}
-use Rattle.registry_state.specs.declared.state.CredentialState.{CredentialState}
+use Rattle.registry_state_credential.specs.declared.state.CredentialState.{CredentialState}
 use Rattle.registry_wire.specs.Attempts.{Message, viewAttempt, viewDecoded, decodeOf}
 use Rattle.registry_wire.specs.declared.attempt.DecodedAttempt.{DecodedAttempt}
 use Rattle.registry_authentication.proofs.AnchorUse.{judged-decoded, judged-malformed}

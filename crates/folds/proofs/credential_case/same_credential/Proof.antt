@@ -1,7 +1,7 @@
-use Rattle.registry_state.specs.States.{credentialBytes}
+use Rattle.registry_state_credential.specs.CredentialStates.{credentialBytes}
 use Rattle.folds.proofs.Laws.{filled}
 use mathlib.Core.Path.{_∙_}
-use Rattle.registry_state.proofs.StateLoops.{length-credential}
+use Rattle.registry_state_credential.proofs.CodesCredential.{length-credential}
 use borrow.Author.Needs.{needs}
 use Rattle.folds.proofs.credential_case.same_credential.Statement.{statement}
 use Rattle.folds.proofs.credential_case.same_credential.Tie as tie

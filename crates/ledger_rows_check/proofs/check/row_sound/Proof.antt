@@ -4,8 +4,8 @@ use borrow.Author.Needs.{needs}
 use lib.Dec.{ltb, leb·suc-suc}
 use Rattle.cesr_sn.specs.Numbers.{value}
 use Rattle.cesr_sn.specs.declared.number.Sn.{Sn}
-use Rattle.registry_state.specs.States.{wellCredential}
-use Rattle.registry_state.specs.declared.state.CredentialState.{CredentialState}
+use Rattle.registry_state_credential.specs.CredentialStates.{wellCredential}
+use Rattle.registry_state_credential.specs.declared.state.CredentialState.{CredentialState}
 use Rattle.ledger_step.specs.Ledgers.{zeroOrOne}
 use Rattle.ledger_rows_check.proofs.check.row_sound.Statement.{statement}
 use Rattle.ledger_rows_check.proofs.check.row_sound.Tie as tie

@@ -1,6 +1,6 @@
 use borrow.Author.Needs.{needs}
-use Rattle.registry_state.proofs.state.CredentialState.none.Statement.{statement}
-use Rattle.registry_state.proofs.state.CredentialState.none.Tie as tie
+use Rattle.registry_state_credential.proofs.state.CredentialState.none.Statement.{statement}
+use Rattle.registry_state_credential.proofs.state.CredentialState.none.Tie as tie
 
 none-requires : tie.Need-none-requires
 none-requires c κs = search needs

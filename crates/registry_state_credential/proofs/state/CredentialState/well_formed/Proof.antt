@@ -1,7 +1,7 @@
 use borrow.Author.Needs.{needs}
-use Rattle.registry_state.specs.States.{wellCredential}
-use Rattle.registry_state.proofs.state.CredentialState.well_formed.Statement.{statement}
-use Rattle.registry_state.proofs.state.CredentialState.well_formed.Tie as tie
+use Rattle.registry_state_credential.specs.CredentialStates.{wellCredential}
+use Rattle.registry_state_credential.proofs.state.CredentialState.well_formed.Statement.{statement}
+use Rattle.registry_state_credential.proofs.state.CredentialState.well_formed.Tie as tie
 
 is-said-requires : tie.Need-is-said-requires
 is-said-requires c κs = search needs

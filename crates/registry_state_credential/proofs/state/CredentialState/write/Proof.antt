@@ -1,7 +1,7 @@
 use borrow.Author.Needs.{needs}
-use Rattle.registry_state.proofs.StateLoops.{credential-head}
-use Rattle.registry_state.proofs.state.CredentialState.write.Statement.{statement}
-use Rattle.registry_state.proofs.state.CredentialState.write.Tie as tie
+use Rattle.registry_state_credential.proofs.CodesCredential.{credential-head}
+use Rattle.registry_state_credential.proofs.state.CredentialState.write.Statement.{statement}
+use Rattle.registry_state_credential.proofs.state.CredentialState.write.Tie as tie
 
 write-credential-requires : tie.Need-write-credential-requires
 write-credential-requires c κs = search needs

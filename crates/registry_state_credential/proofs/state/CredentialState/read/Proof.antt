@@ -1,7 +1,7 @@
 use borrow.Author.Needs.{needs}
-use Rattle.registry_state.specs.States.{readCredential}
-use Rattle.registry_state.proofs.state.CredentialState.read.Statement.{statement}
-use Rattle.registry_state.proofs.state.CredentialState.read.Tie as tie
+use Rattle.registry_state_credential.specs.CredentialStates.{readCredential}
+use Rattle.registry_state_credential.proofs.state.CredentialState.read.Statement.{statement}
+use Rattle.registry_state_credential.proofs.state.CredentialState.read.Tie as tie
 
 said-requires : tie.Need-said-requires
 said-requires c κs = search needs
