@@ -1,13 +1,12 @@
-// Big-endian numbers in lent bytes, and the sequence number (docs/RULES.md, "Bytes").
+// Big-endian numbers in lent bytes (docs/RULES.md, "Bytes").
 // A reader answers 0 where the bytes are not all there. A writer stores all its bytes or none, and answers which.
 ghost use mathlib.Core.Path.{_≡_};
-ghost use Prim.Native.Nat.{_+_, _-_, _*_, _^_, _≤_};
+ghost use Prim.Native.Nat.{_+_, _*_, _≤_};
 ghost use lib.ListN.{length};
 ghost use lib.Seq.{sets};
-ghost use lib.Dec.{eqb, ltb, leb};
+ghost use lib.Dec.{leb};
 ghost use Rattle.laws.specs.Number.{number, numberAt, digits};
 ghost use Rattle.laws.specs.Room.{room, put};
-ghost use Rattle.cesr.specs.Numbers.{value, snOf, readSn, snBytes};
 
 // Whether a slice of len bytes has n from at.
 pub fn has_room(len: usize, at: usize, n: usize) -> bool
@@ -113,16 +112,6 @@ pub(crate) fn put_word(out: &mut [u8], at: usize, x: u64)
     put_quad(out, at + 4, (x % 0x1_0000_0000) as u32);
 }
 
-pub fn write_u8(out: &mut [u8], at: usize, x: u8) -> bool
-    ensures { λ r. ⌜ (r ≡ room (now (out .entry)) at 1) × (now (out .exit) ≡ put (now (out .entry)) at (digits 1 x)) ⌝ }
-{
-    if !has_room(out.len(), at, 1) {
-        return false;
-    }
-    out[at] = x;
-    true
-}
-
 pub fn write_u16(out: &mut [u8], at: usize, x: u16) -> bool
     ensures { λ r. ⌜ (r ≡ room (now (out .entry)) at 2) × (now (out .exit) ≡ put (now (out .entry)) at (digits 2 x)) ⌝ }
 {
@@ -151,73 +140,4 @@ pub fn write_u64(out: &mut [u8], at: usize, x: u64) -> bool
     }
     put_word(out, at, x);
     true
-}
-
-// A sequence number of 128 bits.
-#[repr(C)]
-pub struct Sn {
-    pub hi: u64,
-    pub lo: u64,
-}
-
-impl Sn {
-    pub fn same(self, other: Sn) -> bool
-        ensures { λ r. ⌜ r ≡ eqb (value self) (value other) ⌝ }
-    {
-        (self.hi == other.hi) & (self.lo == other.lo)
-    }
-
-    pub fn less(self, other: Sn) -> bool
-        ensures { λ r. ⌜ r ≡ ltb (value self) (value other) ⌝ }
-    {
-        (self.hi < other.hi) | ((self.hi == other.hi) & (self.lo < other.lo))
-    }
-
-    pub fn is_last(self) -> bool
-        ensures { λ r. ⌜ r ≡ eqb (value self) (2 ^ 128 - 1) ⌝ }
-    {
-        (self.hi == 0xffff_ffff_ffff_ffff) & (self.lo == 0xffff_ffff_ffff_ffff)
-    }
-
-    // After the last comes 0; whoever counts on asks `is_last` first.
-    pub fn next(self) -> Sn
-        ensures { λ r. ⌜ r ≡ snOf (value self + 1) ⌝ }
-    {
-        if self.lo < 0xffff_ffff_ffff_ffff {
-            return Sn {
-                hi: self.hi,
-                lo: self.lo + 1,
-            };
-        }
-        if self.hi < 0xffff_ffff_ffff_ffff {
-            return Sn {
-                hi: self.hi + 1,
-                lo: 0,
-            };
-        }
-        Sn { hi: 0, lo: 0 }
-    }
-
-    pub fn read(s: &[u8], at: usize) -> Sn
-        ensures { λ r. ⌜ r ≡ readSn (now (s .entry)) at ⌝ }
-    {
-        if has_room(s.len(), at, 16) {
-            return Sn {
-                hi: word(s, at),
-                lo: word(s, at + 8),
-            };
-        }
-        Sn { hi: 0, lo: 0 }
-    }
-
-    pub fn write(self, out: &mut [u8], at: usize) -> bool
-        ensures { λ r. ⌜ (r ≡ room (now (out .entry)) at 16) × (now (out .exit) ≡ put (now (out .entry)) at (snBytes self)) ⌝ }
-    {
-        if !has_room(out.len(), at, 16) {
-            return false;
-        }
-        put_word(out, at, self.hi);
-        put_word(out, at + 8, self.lo);
-        true
-    }
 }

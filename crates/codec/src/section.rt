@@ -1,7 +1,7 @@
 // The sections that a layout is made of: a count byte, then that many elements (docs/RULES.md, "Bytes").
-use cesr::number::Sn;
 use cesr::primitive::BasicPrefix;
 use cesr::primitive::Matter;
+use cesr_sn::number::Sn;
 use codec_cursor::cursor::ByteRead;
 use codec_cursor::cursor::Cursor;
 use events::member_set::Members;

@@ -5,9 +5,9 @@ use mathlib.Core.Bool.{Bool, true, false, cond, _&&_, _||_}
 use lib.Dec.{leb, eqb}
 use Rattle.laws.specs.Number.{numberAt}
 use Rattle.laws.specs.Room.{room}
-use Rattle.cesr.specs.Numbers.{readSn}
+use Rattle.cesr_sn.specs.Numbers.{readSn}
 use Rattle.cesr.specs.Primitives.{readMatter, isBasic, isSaid}
-use Rattle.cesr.specs.declared.number.Sn.{Sn}
+use Rattle.cesr_sn.specs.declared.number.Sn.{Sn}
 use Rattle.cesr.specs.declared.primitive.Matter.{Matter}
 use Rattle.cesr.specs.declared.primitive.Said.{Said}
 use Rattle.cesr.specs.declared.primitive.BasicPrefix.{BasicPrefix}

@@ -17,11 +17,11 @@ use lib.ListN.{length, take, drop, length-append}
 use Rattle.laws.specs.Number.{number, numberAt, digits, Bytes}
 use Rattle.laws.proofs.Number.{length-digits, number-below, number-at, digits-number, whole-number}
 use Rattle.laws.proofs.Tests.{and-left, and-right}
-use Rattle.cesr.specs.Numbers.{value, snOf, readSn, snBytes}
+use Rattle.cesr_sn.specs.Numbers.{value, snOf, readSn, snBytes}
 use Rattle.cesr.specs.Primitives.{matterBytes, readMatter, isBasic, isSaid}
-use Rattle.cesr.specs.declared.number.Sn.{Sn}
+use Rattle.cesr_sn.specs.declared.number.Sn.{Sn}
 use Rattle.cesr.specs.declared.primitive.Matter.{Matter}
-use Rattle.cesr.proofs.Words.{words-value, value-words, snOf-good, value-fits}
+use Rattle.cesr_sn.proofs.Words.{words-value, value-words, snOf-good, value-fits}
 use Rattle.cesr.proofs.Matters.{length-matter}
 use Rattle.codec_laws.proofs.Round.{Filled, matter-at, matter-bytes, read-filled}
 use Rattle.codec_cursor.specs.declared.cursor.Cursor.{Cursor}

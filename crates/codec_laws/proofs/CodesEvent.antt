@@ -8,9 +8,9 @@ use borrow.Author.Tests.{eqb-true}
 use lib.Dec.{eqb, lit<}
 use lib.ListN.{length}
 use Rattle.laws.specs.Number.{digits, Bytes}
-use Rattle.cesr.specs.Numbers.{snBytes}
+use Rattle.cesr_sn.specs.Numbers.{snBytes}
 use Rattle.cesr.specs.Primitives.{matterBytes}
-use Rattle.cesr.specs.declared.number.Sn.{Sn}
+use Rattle.cesr_sn.specs.declared.number.Sn.{Sn}
 use Rattle.cesr.specs.declared.primitive.Matter.{Matter}
 use Rattle.cesr.specs.declared.primitive.Said.{Said}
 use Rattle.cesr.specs.declared.primitive.BasicPrefix.{BasicPrefix}

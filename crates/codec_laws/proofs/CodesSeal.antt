@@ -10,12 +10,12 @@ use lib.Dec.{eqb, ltb, leb, lit<, lit≤}
 use lib.ListN.{length}
 use Rattle.laws.specs.Number.{digits, Bytes}
 use Rattle.laws.proofs.Tests.{and-left, and-right}
-use Rattle.cesr.specs.Numbers.{value, snOf, snBytes}
+use Rattle.cesr_sn.specs.Numbers.{value, snOf, snBytes}
 use Rattle.cesr.specs.Primitives.{matterBytes, isBasic, isSaid}
-use Rattle.cesr.specs.declared.number.Sn.{Sn}
+use Rattle.cesr_sn.specs.declared.number.Sn.{Sn}
 use Rattle.cesr.specs.declared.primitive.Matter.{Matter}
 use Rattle.cesr.specs.declared.primitive.Said.{Said}
-use Rattle.cesr.proofs.Words.{value-words, snOf-good}
+use Rattle.cesr_sn.proofs.Words.{value-words, snOf-good}
 use Rattle.events_seal.specs.Identifiers.{matterOf, identifierOf}
 use Rattle.events_seal.proofs.Identifiers.{matter-identifier}
 use Rattle.events_seal.specs.declared.identifier.Identifier.{Identifier}

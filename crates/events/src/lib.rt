@@ -1,2 +1,2 @@
-// Lists of backers, and the rules on them (docs/RULES.md, "Lists of backers").
+// Lists of backers by value, and what the rules on them can answer (docs/RULES.md, "Lists of backers").
 pub mod member_set;

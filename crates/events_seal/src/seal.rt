@@ -1,7 +1,7 @@
 // Seals, by which a key event names what it anchors (docs/RULES.md, "Identifiers and seals").
 use crate::identifier::Identifier;
-use cesr::number::Sn;
 use cesr::primitive::Said;
+use cesr_sn::number::Sn;
 ghost use mathlib.Core.Path.{_≡_};
 ghost use Rattle.events_seal.specs.Seals.{kindOf};
 

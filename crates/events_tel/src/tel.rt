@@ -1,6 +1,6 @@
 // The six events of a registry and its credentials (docs/RULES.md, "Event kinds").
 use crate::config::Configs;
-use cesr::number::Sn;
+use cesr_sn::number::Sn;
 use codec_cursor::cursor::Cursor;
 use events_seal::seal::Seal;
 use events_toad::toad::Toad;

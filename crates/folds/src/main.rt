@@ -6,19 +6,15 @@
 // expected, its letter, the evidence kind awaited, how many details there are, two details of 16 bytes (0 where there is none), and four
 // lengths of two bytes. The body has so many bytes of the next state, of the registry state, of the credential state, and of the attempt
 // or the input of `status`. Behind a refusal there is no next state, since the one that was handed in stays.
-mod credential_case;
-mod judge;
-mod part;
-mod registry_case;
 mod tally;
 
-use judge::judge_record;
+use folds_judge::judge::body_size;
+use folds_judge::judge::judge_record;
+use folds_judge::part::Finding;
 use libc::STDIN_FILENO;
 use libc::STDOUT_FILENO;
-use part::Finding;
 use tally::Tally;
-ghost use mathlib.Core.Path.{_≡_};
-ghost use Prim.Native.Nat.{_+_, _*_, _≤_};
+ghost use Prim.Native.Nat.{_≤_};
 ghost use lib.ListN.{length};
 
 enum Next {
@@ -35,14 +31,6 @@ enum Next {
 struct Outcome {
     tally: Tally,
     broken: bool,
-}
-
-// What two bytes of a length say.
-fn size(high: u8, low: u8) -> usize
-    ensures { λ r. ⌜ r ≡ high * 256 + low ⌝ }
-    ensures { λ r. ⌜ r ≤ 65535 ⌝ }
-{
-    high as usize * 256 + low as usize
 }
 
 // Whether n bytes are there. They come to the start of the buffer.
@@ -63,8 +51,7 @@ fn next_record(buffer: &mut [u8]) -> Next
     if n < 46 {
         return Next::Broken;
     }
-    let states = size(first[38], first[39]) + size(first[40], first[41]);
-    let length = states + size(first[42], first[43]) + size(first[44], first[45]);
+    let length = body_size(&first);
     if 65536 < length {
         return Next::Broken;
     }

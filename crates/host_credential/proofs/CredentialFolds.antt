@@ -12,7 +12,7 @@ use lib.ListN.{length}
 use Rattle.codec_cursor.specs.declared.cursor.Cursor.{Cursor}
 use Rattle.codec_cursor.specs.Readers.{Read, starting}
 use Rattle.registry_state.specs.States.{Registry, readRegistry}
-use Rattle.registry_state.specs.declared.state.CredentialState.{CredentialState}
+use Rattle.registry_state_credential.specs.declared.state.CredentialState.{CredentialState}
 use Rattle.registry_issue.specs.IssueFolds as I
 use Rattle.registry_credential_state.specs.CredentialFolds as W
 use Rattle.host_next.specs.ByteFolds.{registryIn, credentialFolded, noState}

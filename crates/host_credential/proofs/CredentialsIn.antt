@@ -12,10 +12,10 @@ use lib.ListN.{length}
 use Rattle.laws.specs.Number.{Bytes}
 use Rattle.codec_cursor.specs.declared.cursor.Cursor.{Cursor}
 use Rattle.codec_cursor.specs.Readers.{starting}
-use Rattle.registry_state.specs.States.{credentialBytes, goodCredential, readCredential, viewCredentialRead}
-use Rattle.registry_state.specs.declared.state.CredentialState.{CredentialState}
-use Rattle.registry_state.specs.declared.state.CredentialRead.{CredentialRead}
-use Rattle.registry_state.proofs.CodesState.{codes-credential}
+use Rattle.registry_state_credential.specs.CredentialStates.{credentialBytes, goodCredential, readCredential, viewCredentialRead}
+use Rattle.registry_state_credential.specs.declared.state.CredentialState.{CredentialState}
+use Rattle.registry_state_credential.specs.declared.state.CredentialRead.{CredentialRead}
+use Rattle.registry_state_credential.proofs.CodesCredential.{codes-credential}
 use Rattle.host_next.proofs.StatesIn.{whole-is}
 use Rattle.host_credential.specs.CredentialByteFolds.{credentialIn}
 

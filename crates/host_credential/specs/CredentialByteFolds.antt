@@ -3,8 +3,9 @@ use Prim.Native.Nat.{ℕ}
 use mathlib.Core.List.{List}
 use mathlib.Core.Option.{Option, none, some}
 use Rattle.codec_cursor.specs.Readers.{starting}
-use Rattle.registry_state.specs.States.{Registry, readCredential}
-use Rattle.registry_state.specs.declared.state.CredentialState.{CredentialState}
+use Rattle.registry_state.specs.States.{Registry}
+use Rattle.registry_state_credential.specs.CredentialStates.{readCredential}
+use Rattle.registry_state_credential.specs.declared.state.CredentialState.{CredentialState}
 use Rattle.registry_wire.specs.Attempts.{decodeOf}
 use Rattle.registry_issue.specs.IssueFolds as I
 use Rattle.registry_credential_state.specs.CredentialFolds as W

@@ -7,7 +7,7 @@ use registry_credential_state::credential_state::ingest_managed;
 use registry_issue::credential_state::incept_managed;
 use registry_management::management::backing_in;
 use registry_management::management::read_management;
-use registry_state::state::CredentialState;
+use registry_state_credential::state::CredentialState;
 ghost use mathlib.Core.Path.{_≡_};
 ghost use Rattle.host_next.specs.ByteFolds.{called, callOf};
 ghost use Rattle.host_credential.specs.CredentialByteFolds.{credentialIncept, credentialIngest};

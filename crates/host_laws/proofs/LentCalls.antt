@@ -47,9 +47,9 @@ use denote.Triple.Entry.{Args, Vals}
 use denote.Triple.Walked.{onExit, Stays, stay-ref, stay-dropped, gave-ref, AllGo, goes-ref, goes-dropped, goes-gave-ref}
 use denote.Exit.{yes}
 use Rattle.registry_state.specs.declared.state.RegistryState.{RegistryState}
-use Rattle.registry_state.specs.declared.state.CredentialState.{CredentialState}
+use Rattle.registry_state_credential.specs.declared.state.CredentialState.{CredentialState}
 use Rattle.registry_state.proofs.state.RegistryState as G
-use Rattle.registry_state.proofs.state.CredentialState as T
+use Rattle.registry_state_credential.proofs.state.CredentialState as T
 use Rattle.ledger_table.specs.declared.table.Ledger.{Ledger}
 use Rattle.ledger_table.proofs.table.Ledger as K
 use Rattle.ledger_table.proofs.table.Ledger.Laws as K′

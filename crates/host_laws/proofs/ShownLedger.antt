@@ -32,8 +32,8 @@ use denote.Struct.Steps.{spelt}
 use denote.Struct.Laws as LL
 use Rattle.registry_state.proofs.state.RegistryState as G
 use Rattle.registry_state.proofs.state.RegistryState.Laws as G′
-use Rattle.registry_state.proofs.state.CredentialState as T
-use Rattle.registry_state.proofs.state.CredentialState.Laws as T′
+use Rattle.registry_state_credential.proofs.state.CredentialState as T
+use Rattle.registry_state_credential.proofs.state.CredentialState.Laws as T′
 use Rattle.ledger_table.specs.declared.table.Ledger.{Ledger}
 use Rattle.ledger_table.proofs.table.Ledger as K
 use Rattle.ledger_table.proofs.table.Ledger.Laws as K′

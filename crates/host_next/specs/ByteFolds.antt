@@ -7,7 +7,8 @@ use lib.Dec.{eqb, leb}
 use lib.ListN.{length}
 use lib.Seq.{sets}
 use Rattle.codec_cursor.specs.Readers.{Read, starting}
-use Rattle.registry_state.specs.States.{Registry, registryBytes, credentialBytes, readRegistry}
+use Rattle.registry_state.specs.States.{Registry, registryBytes, readRegistry}
+use Rattle.registry_state_credential.specs.CredentialStates.{credentialBytes}
 use Rattle.registry_error.specs.declared.error.RegistryRejection.the-variants.{Malformed, ShortBuffer}
 use Rattle.registry_error.specs.declared.error.Answer.{Answer}
 use Rattle.registry_error.specs.declared.error.Answer.the-variants.{Rejected}

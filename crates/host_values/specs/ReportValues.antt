@@ -1,7 +1,7 @@
 -- The values of a report (docs/RULES.md, "Host's calls").
 use Prim.Native.Nat.{ℕ}
 use mathlib.Core.List.{List, [], _∷_}
-use Rattle.cesr.specs.Numbers.{value}
+use Rattle.cesr_sn.specs.Numbers.{value}
 use Rattle.host_values.specs.declared.values.Values.{Values}
 use Rattle.host_values.specs.declared.values.Values.the-variants.{Nothing, One, Two}
 

@@ -1,5 +1,5 @@
 // What a report has beside its number and its letter: the evidence kind awaited, and up to two values (docs/RULES.md, "Refusals").
-use cesr::number::Sn;
+use cesr_sn::number::Sn;
 use events::member_set::Rule;
 use registry_disposition::disposition::Disposition;
 use registry_disposition::disposition::EvidenceKind;
@@ -7,7 +7,7 @@ use registry_error::error::RegistryRejection;
 ghost use mathlib.Core.Path.{_≡_};
 ghost use mathlib.Core.List.{[], _∷_};
 ghost use lib.ListN.{length, getD};
-ghost use Rattle.cesr.specs.Numbers.{value};
+ghost use Rattle.cesr_sn.specs.Numbers.{value};
 ghost use Rattle.events.specs.Members.{ruleOf};
 ghost use Rattle.registry_disposition.specs.Dispositions.{kindPlace, awaitedOf};
 ghost use Rattle.registry_error.specs.Errors.{detailsOf};

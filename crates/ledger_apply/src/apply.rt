@@ -10,7 +10,7 @@ use ledger_rows::rows::read_row;
 use ledger_rows::rows::store_row;
 use ledger_stores::call::Applied;
 use ledger_stores::call::answered;
-use registry_state::state::CredentialState;
+use registry_state_credential::state::CredentialState;
 use registry_state::state::RegistryState;
 ghost use mathlib.Core.Path.{_≡_};
 ghost use Rattle.ledger_step.specs.Ledgers.{lentLedger};

@@ -4,7 +4,7 @@ use mathlib.Core.Bool.{true}
 use mathlib.Core.List.{[], _∷_}
 use Rattle.laws.specs.First.{first}
 use Rattle.laws.specs.Count.{count}
-use Rattle.cesr.specs.Numbers.{value, snOf}
+use Rattle.cesr_sn.specs.Numbers.{value, snOf}
 use Rattle.cesr.specs.Primitives.{eqMatter, isBasic, isSaid}
 use Rattle.events.specs.Members.{checkMembers, checkDeltas, checkCurrent, check, breaks, has as hasMember}
 use Rattle.events_toad.specs.Toads.{exactOk}
@@ -13,7 +13,7 @@ use Rattle.codec_cursor.specs.Readers.{isIdentifier}
 use Rattle.codec.specs.Events.{isConfig}
 use Rattle.codec.specs.Layout.{all, goodSaid, goodIdentifier, goodSn, goodToad, goodConfigs, goodPrefixes, isMatter}
 use Rattle.registry_signatures.specs.SignatureSections.{goodSignature}
-use Rattle.registry_state.specs.States.{wellCredential}
+use Rattle.registry_state_credential.specs.CredentialStates.{wellCredential}
 use Rattle.registry_wire.specs.Attempts.{goodMessage, goodSource, goodAnchors, goodAnchor}
 use Rattle.registry_error.specs.declared.error.RegistryRejection.the-variants.{Malformed}
 use Rattle.registry_answer.specs.Answers.{acceptIf, firstOf}

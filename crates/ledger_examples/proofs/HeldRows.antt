@@ -11,15 +11,15 @@ use borrow.Author.Tests.{leb-true, eq-eqb, ne-eqb}
 use lib.Dec.{eqb, lit<}
 use lib.ListN.{length}
 use Rattle.laws.specs.First.{first}
-use Rattle.cesr.specs.Numbers.{value}
+use Rattle.cesr_sn.specs.Numbers.{value}
 use Rattle.cesr.specs.Primitives.{eqMatter, isSaid}
 use Rattle.events.specs.Members.{checkMembers, check}
 use Rattle.events_toad.specs.Toads.{exactOk}
 use Rattle.events_tel.specs.Configs.{noBackers, hasCode}
 use Rattle.events_tel.specs.TelEvents.{snZero}
 use Rattle.codec.specs.Layout.{all}
-use Rattle.registry_state.specs.States.{wellCredential}
-use Rattle.registry_state.specs.declared.state.CredentialState.{CredentialState}
+use Rattle.registry_state_credential.specs.CredentialStates.{wellCredential}
+use Rattle.registry_state_credential.specs.declared.state.CredentialState.{CredentialState}
 use Rattle.registry_answer.specs.Answers.{acceptIf, firstOf}
 use Rattle.registry_error.specs.declared.error.RegistryRejection.the-variants.{NoRoom}
 use Rattle.registry_authentication.specs.Issuers.{authenticateIssuer}

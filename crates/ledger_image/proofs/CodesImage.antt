@@ -15,9 +15,11 @@ use Rattle.laws.proofs.Tests.{and-left, and-right}
 use Rattle.codec_cursor.specs.Readers.{starting}
 use Rattle.codec_laws.proofs.Codes.{Codes, codes-both}
 use Rattle.codec_laws.proofs.CodesRound.{whole-sound, whole-complete}
-use Rattle.registry_state.specs.States.{Registry, registryBytes, credentialBytes, goodRegistry, goodCredential, readRegistry, readCredential}
-use Rattle.registry_state.specs.declared.state.CredentialState.{CredentialState}
-use Rattle.registry_state.proofs.CodesState.{codes-registry, codes-credential}
+use Rattle.registry_state.specs.States.{Registry, registryBytes, goodRegistry, readRegistry}
+use Rattle.registry_state_credential.specs.CredentialStates.{credentialBytes, goodCredential, readCredential}
+use Rattle.registry_state_credential.specs.declared.state.CredentialState.{CredentialState}
+use Rattle.registry_state.proofs.CodesState.{codes-registry}
+use Rattle.registry_state_credential.proofs.CodesCredential.{codes-credential}
 use Rattle.ledger_step.specs.Ledgers.{sound}
 use Rattle.ledger_image.specs.Images.{registrySection, credentialSection, imageBytes, goodRegistries, goodCredentials, goodImage, readRegistries, readCredentials, readImage, ledgerOf, imageOf}
 use Rattle.ledger_image.specs.Images.ImageAnswer.{refused, held}

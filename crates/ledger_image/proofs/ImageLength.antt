@@ -16,9 +16,11 @@ use Rattle.laws.proofs.Number.{length-digits}
 use Rattle.laws.proofs.Tests.{and-left, and-right}
 use Rattle.codec.specs.Events.{isConfig}
 use Rattle.codec.specs.Layout.{joined, all, goodSaid, goodIdentifier, goodSn, goodToad, goodConfigs, goodPrefixes}
-use Rattle.registry_state.specs.States.{Registry, registryBytes, credentialBytes, goodRegistry}
-use Rattle.registry_state.specs.declared.state.CredentialState.{CredentialState}
-use Rattle.registry_state.proofs.StateLoops.{length-registry, length-credential}
+use Rattle.registry_state.specs.States.{Registry, registryBytes, goodRegistry}
+use Rattle.registry_state_credential.specs.CredentialStates.{credentialBytes}
+use Rattle.registry_state_credential.specs.declared.state.CredentialState.{CredentialState}
+use Rattle.registry_state.proofs.StateLoops.{length-registry}
+use Rattle.registry_state_credential.proofs.CodesCredential.{length-credential}
 use Rattle.ledger_image.specs.Images.{wideBytes, registrySection, credentialSection, imageBytes, goodRegistries, goodCredentials, goodImage, summed, registrySize}
 
 module _ {A : Type 0} (f : A → List ℕ) (size : A → ℕ) (each : (x : A) → length (f x) ≡ size x) where

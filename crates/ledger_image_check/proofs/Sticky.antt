@@ -16,7 +16,8 @@ use Rattle.codec_cursor.specs.declared.cursor.Cursor.{Cursor}
 use Rattle.codec_cursor.specs.Readers.{Reader, advanced, readByte, readQuad, readNumber, readIf, isIdentifier, readIdentifier, mapped, saidOf, prefixOf, readSaid, readPrefix, readByteIf, both, times, countUpTo, section}
 use Rattle.codec.specs.Events.{isConfig, readConfig, readConfigs, readPrefixes}
 use Rattle.codec_laws.proofs.Stands.{went, passed}
-use Rattle.registry_state.specs.States.{registryOf, readRegistry, credentialOf, readCredential}
+use Rattle.registry_state.specs.States.{registryOf, readRegistry}
+use Rattle.registry_state_credential.specs.CredentialStates.{credentialOf, readCredential}
 
 -- a reader that gets on only from a cursor that has not stopped
 pub record Sticky {A : Type 0} (p : Reader A) : Type 0 where

@@ -16,7 +16,7 @@ use lib.ListN.{length}
 use Rattle.laws.specs.Number.{numberAt}
 use Rattle.laws.proofs.Number.{whole-number}
 use Rattle.laws.proofs.Room.{true-room}
-use Rattle.cesr.specs.Numbers.{value}
+use Rattle.cesr_sn.specs.Numbers.{value}
 use Rattle.cesr.specs.Primitives.{eqSaid, isSaid, readMatter, eqMatter}
 use Rattle.cesr.specs.declared.primitive.Matter.{Matter}
 use Rattle.cesr.specs.declared.primitive.Said.{Said}
@@ -26,8 +26,8 @@ use Rattle.codec.specs.Layout.{all}
 use Rattle.codec_laws.proofs.Stands.{went, passed}
 use Rattle.codec_laws.proofs.Codes.{and-true}
 use Rattle.codec_laws.proofs.CodesList.{all-snoc}
-use Rattle.registry_state.specs.States.{readCredential, wellCredential}
-use Rattle.registry_state.specs.declared.state.CredentialState.{CredentialState}
+use Rattle.registry_state_credential.specs.CredentialStates.{readCredential, wellCredential}
+use Rattle.registry_state_credential.specs.declared.state.CredentialState.{CredentialState}
 use Rattle.registry_laws.specs.Pairs.{Pair, keyOf}
 use Rattle.ledger_step.specs.Tables.{has, distinct}
 use Rattle.ledger_step.specs.Ledgers.{eqPair, hasRegistry, zeroOrOne}

@@ -7,7 +7,7 @@ use lib.ListN.{length}
 use Rattle.cesr.specs.Primitives.{readMatter}
 use Rattle.cesr.specs.declared.primitive.Said.{Said}
 use Rattle.codec_cursor.specs.Readers.{placed, saidOf}
-use Rattle.registry_state.specs.States.{readCredential}
+use Rattle.registry_state_credential.specs.CredentialStates.{readCredential}
 use Rattle.registry_laws.specs.Pairs.{Pair, keyOf}
 use Rattle.ledger_step.specs.Tables.{has}
 use Rattle.ledger_step.specs.Ledgers.{eqPair, hasRegistry, zeroOrOne}

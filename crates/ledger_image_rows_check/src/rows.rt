@@ -1,10 +1,10 @@
 // The rows of an image, each of 115 bytes: read where they stand, and held to the reading rules that speak of rows.
-use cesr::number::Sn;
 use cesr::number::read_u64;
 use cesr::primitive::Matter;
+use cesr_sn::number::Sn;
 use codec_cursor::cursor::Cursor;
 use ledger_image_ids::ids::Ids;
-use registry_state::state::CredentialState;
+use registry_state_credential::state::CredentialState;
 ghost use mathlib.Core.Path.{_≡_};
 ghost use Prim.Native.Nat.{_+_, _*_, _≤_};
 ghost use lib.ListN.{length};

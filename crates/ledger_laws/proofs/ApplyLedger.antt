@@ -7,7 +7,7 @@ use mathlib.Core.Bool.{false, true≢false}
 use mathlib.Core.List.{List}
 use Prim.Native.Nat.{ℕ}
 use Rattle.registry_state.specs.declared.state.RegistryState.{RegistryState}
-use Rattle.registry_state.specs.declared.state.CredentialState.{CredentialState}
+use Rattle.registry_state_credential.specs.declared.state.CredentialState.{CredentialState}
 use Rattle.registry_answer.specs.Answers.{accepts}
 use Rattle.ledger_step.specs.Ledgers as L
 use Rattle.ledger_step.specs.Steps.{Effect, requestOf, effect, answerOf, stepOf}

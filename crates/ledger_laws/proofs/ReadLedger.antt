@@ -8,7 +8,7 @@ use mathlib.Core.Path.{_≡_, refl, ap, _∙_}
 use mathlib.Core.List.{List}
 use lib.ListN.{length}
 use Rattle.registry_state.specs.declared.state.RegistryState.{RegistryState}
-use Rattle.registry_state.specs.declared.state.CredentialState.{CredentialState}
+use Rattle.registry_state_credential.specs.declared.state.CredentialState.{CredentialState}
 use Rattle.ledger_image.specs.Images.{ImageAnswer, imageOf, imageInto}
 use Rattle.ledger_image.specs.Images.ImageAnswer.{refused, held}
 use Rattle.ledger_read.specs.ImageReads.{Counts, countsOf, countsAfter, rowsAfter}

@@ -5,7 +5,7 @@ use ledger_rows::rows::find_at;
 use ledger_rows::rows::read_row;
 use ledger_standing::lookup::LookedUp;
 use ledger_standing::lookup::standing;
-use registry_state::state::CredentialState;
+use registry_state_credential::state::CredentialState;
 use registry_state::state::RegistryState;
 ghost use mathlib.Core.Path.{_≡_};
 ghost use Rattle.ledger_step.specs.Ledgers.{lentLedger, lookUp};

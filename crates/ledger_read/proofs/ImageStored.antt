@@ -14,9 +14,10 @@ use lib.ListN.{length, take, drop}
 use lib.Seq.{sets}
 use Rattle.laws.proofs.Tests.{and-left, and-right}
 use Rattle.codec_cursor.specs.Readers.{starting, placed, times}
-use Rattle.registry_state.specs.States.{Registry, readRegistry, readCredential}
+use Rattle.registry_state.specs.States.{Registry, readRegistry}
+use Rattle.registry_state_credential.specs.CredentialStates.{readCredential}
 use Rattle.registry_state.specs.declared.state.RegistryState.{RegistryState}
-use Rattle.registry_state.specs.declared.state.CredentialState.{CredentialState}
+use Rattle.registry_state_credential.specs.declared.state.CredentialState.{CredentialState}
 use Rattle.ledger_step.specs.Ledgers.{heldOf}
 use Rattle.ledger_step.specs.Steps.{heldNow}
 use Rattle.ledger_image.specs.Images.{ImageAnswer, imageNumber, readRegistries, imageOf, imageInto}

@@ -14,7 +14,7 @@ use lib.Seq.{sets, length-sets, sets-eq, take-at}
 use Rattle.laws.specs.Number.{Bytes}
 use Rattle.registry_state.specs.States.{Registry}
 use Rattle.registry_state.specs.declared.state.RegistryState.{RegistryState}
-use Rattle.registry_state.specs.declared.state.CredentialState.{CredentialState}
+use Rattle.registry_state_credential.specs.declared.state.CredentialState.{CredentialState}
 use Rattle.ledger_step.specs.Ledgers.{Ledger, heldOf, lentLedger, sound}
 use Rattle.ledger_step.specs.Steps.{heldNow}
 use Rattle.ledger_image.specs.Images.{ImageAnswer, imageNumber, ledgerOf, ledgerBytes, statesOf, Ranged, imageOf, imageInto}

@@ -8,7 +8,7 @@ use lib.Seq.{sets}
 use Rattle.codec_cursor.specs.Readers.{starting}
 use Rattle.registry_state.specs.States.{Registry}
 use Rattle.registry_state.specs.declared.state.RegistryState.{RegistryState}
-use Rattle.registry_state.specs.declared.state.CredentialState.{CredentialState}
+use Rattle.registry_state_credential.specs.declared.state.CredentialState.{CredentialState}
 use Rattle.ledger_step.specs.Ledgers.{heldOf}
 use Rattle.ledger_step.specs.Steps.{heldNow}
 use Rattle.ledger_image.specs.Images.{ImageAnswer, readRegistries, imageInto}

@@ -1,5 +1,5 @@
 // The check of all registries that are lent (docs/RULES.md, "Reading rules").
-use events::member_set::MemberSet;
+use events_member_set::member_set::MemberSet;
 use ledger_registries::registries::find_registry;
 use registry_answer::answer::accepts;
 use registry_answer::answer::backer_set;

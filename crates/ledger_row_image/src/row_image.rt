@@ -3,7 +3,7 @@ use codec_cursor::cursor::Cursor;
 use ledger_image::image::write_count;
 use ledger_rows::rows::store_row;
 use ledger_sections::rows::section_fits;
-use registry_state::state::CredentialState;
+use registry_state_credential::state::CredentialState;
 ghost use mathlib.Core.Path.{_≡_};
 ghost use lib.Seq.{sets};
 ghost use Rattle.ledger_sections.specs.RowImages.{writtenRows, rowsFrom};

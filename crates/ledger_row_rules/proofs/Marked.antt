@@ -16,8 +16,8 @@ use lib.ListN.{length, getD, set, take, length-set}
 use lib.Seq.{getD-set-same, getD-set-other, getD-take, length-take-le}
 use Rattle.laws.proofs.First.{first-none}
 use Rattle.cesr.specs.declared.primitive.Said.{Said}
-use Rattle.registry_state.specs.States.{noCredential}
-use Rattle.registry_state.specs.declared.state.CredentialState.{CredentialState}
+use Rattle.registry_state_credential.specs.CredentialStates.{noCredential}
+use Rattle.registry_state_credential.specs.declared.state.CredentialState.{CredentialState}
 use Rattle.registry_laws.specs.Pairs.{Pair, keyOf}
 use Rattle.ledger_step.specs.Ledgers.{eqPair}
 use Rattle.ledger_step.specs.Tables.{place}

@@ -1,10 +1,10 @@
 // The rules that a row keeps or breaks by itself (docs/RULES.md, "Reading rules").
-use cesr::number::Sn;
-use registry_state::state::CredentialState;
+use cesr_sn::number::Sn;
+use registry_state_credential::state::CredentialState;
 ghost use mathlib.Core.Path.{_≡_};
 ghost use mathlib.Core.Bool.{_&&_};
 ghost use lib.Dec.{eqb, leb};
-ghost use Rattle.registry_state.specs.States.{wellCredential};
+ghost use Rattle.registry_state_credential.specs.CredentialStates.{wellCredential};
 ghost use Rattle.ledger_step.specs.Ledgers.{zeroOrOne};
 
 // There are 256 rows, and at most so many of them are in use.

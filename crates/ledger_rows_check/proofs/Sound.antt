@@ -10,8 +10,8 @@ use mathlib.Core.Bool.{Bool, true, false, _&&_}
 use mathlib.Core.List.{List}
 use lib.Dec.{eqb, leb}
 use lib.ListN.{length, take}
-use Rattle.registry_state.specs.States.{noCredential, wellCredential}
-use Rattle.registry_state.specs.declared.state.CredentialState.{CredentialState}
+use Rattle.registry_state_credential.specs.CredentialStates.{noCredential, wellCredential}
+use Rattle.registry_state_credential.specs.declared.state.CredentialState.{CredentialState}
 use Rattle.registry_laws.specs.Pairs.{keyOf}
 use Rattle.ledger_step.specs.Ledgers.{eqPair, zeroOrOne, holds, rowRules}
 use Rattle.ledger_step.proofs.Rules.{pair-test}

@@ -1,11 +1,11 @@
 // What a look-up answers, from the row that a search for the key found (docs/RULES.md, "Look-up").
-use cesr::number::Sn;
+use cesr_sn::number::Sn;
 use cesr::primitive::Said;
-use registry_state::state::CredentialState;
+use registry_state_credential::state::CredentialState;
 ghost use mathlib.Core.Path.{_≡_};
 ghost use mathlib.Core.Bool.{_&&_};
 ghost use lib.Dec.{eqb, ltb};
-ghost use Rattle.cesr.specs.Numbers.{value};
+ghost use Rattle.cesr_sn.specs.Numbers.{value};
 ghost use Rattle.ledger_step.specs.Ledgers.{wellPair};
 ghost use Rattle.ledger_standing.specs.Lookups.{viewLookedUp, keyPair, lookedUpOf};
 

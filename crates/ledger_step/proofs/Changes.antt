@@ -16,8 +16,9 @@ use Rattle.events_tel.specs.TelEvents.{Event}
 use Rattle.events_tel.specs.TelEvents.Event.{vcp, vrt, iss, rev, bis, brv}
 use Rattle.codec.specs.Layout.{all}
 use Rattle.codec_laws.proofs.CodesList.{all-snoc}
-use Rattle.registry_state.specs.States.{Registry, wellCredential}
-use Rattle.registry_state.specs.declared.state.CredentialState.{CredentialState}
+use Rattle.registry_state.specs.States.{Registry}
+use Rattle.registry_state_credential.specs.CredentialStates.{wellCredential}
+use Rattle.registry_state_credential.specs.declared.state.CredentialState.{CredentialState}
 use Rattle.registry_wire.specs.Attempts.{Message, Decoded, decodeOf}
 use Rattle.registry_wire.specs.Attempts.Decoded.{malformed, decoded}
 use Rattle.registry_answer.specs.Answers.{accepts}

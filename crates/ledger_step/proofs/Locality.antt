@@ -14,7 +14,7 @@ use Rattle.cesr.specs.Primitives.{eqSaid}
 use Rattle.cesr.specs.declared.primitive.Matter.{Matter}
 use Rattle.cesr.specs.declared.primitive.Said.{Said}
 use Rattle.registry_state.specs.States.{Registry}
-use Rattle.registry_state.specs.declared.state.CredentialState.{CredentialState}
+use Rattle.registry_state_credential.specs.declared.state.CredentialState.{CredentialState}
 use Rattle.registry_wire.specs.Attempts.{Message}
 use Rattle.registry_laws.specs.Pairs.{Pair, keyOf}
 use Rattle.registry_laws.specs.States.{OneRegistry}

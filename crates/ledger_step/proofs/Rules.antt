@@ -11,7 +11,7 @@ use Rattle.laws.proofs.Tests.{and-left, and-right}
 use Rattle.cesr.specs.Primitives.{eqSaid}
 use Rattle.cesr.proofs.Matters.{eq-said, said-eq}
 use Rattle.codec.specs.Layout.{all}
-use Rattle.registry_state.specs.States.{wellCredential}
+use Rattle.registry_state_credential.specs.CredentialStates.{wellCredential}
 use Rattle.registry_verification.specs.Starred.{All}
 use Rattle.registry_laws.specs.Pairs.{keyOf}
 use Rattle.ledger_step.specs.Tables.{distinct}

@@ -7,7 +7,7 @@ use lib.Dec.{eqb, leb}
 use lib.ListN.{length, take}
 use Rattle.codec.specs.Layout.{all}
 use Rattle.cesr.specs.Primitives.{eqSaid}
-use Rattle.registry_state.specs.States.{wellCredential}
+use Rattle.registry_state_credential.specs.CredentialStates.{wellCredential}
 use Rattle.registry_laws.specs.Pairs.{keyOf}
 use Rattle.ledger_step.specs.Tables.{distinct}
 use Rattle.ledger_step.specs.Ledgers.{Ledger, idsOf, eqPair, holds, keepsLayout, keepsRules, hasRegistry, zeroOrOne, rules, registryRules, rowRules, sound}

@@ -11,9 +11,10 @@ use Rattle.cesr.specs.Primitives.{eqSaid}
 use Rattle.cesr.specs.declared.primitive.Said.{Said}
 use Rattle.events_tel.specs.TelEvents.{Event}
 use Rattle.events_tel.specs.TelEvents.Event.{vcp, vrt, iss, rev, bis, brv}
-use Rattle.registry_state.specs.States.{viewRegistry, wellRegistry, wellCredential}
+use Rattle.registry_state.specs.States.{viewRegistry, wellRegistry}
+use Rattle.registry_state_credential.specs.CredentialStates.{wellCredential}
 use Rattle.registry_state.specs.declared.state.RegistryState.{RegistryState}
-use Rattle.registry_state.specs.declared.state.CredentialState.{CredentialState}
+use Rattle.registry_state_credential.specs.declared.state.CredentialState.{CredentialState}
 use Rattle.registry_wire.specs.Attempts.{Message, Decoded, decodeOf}
 use Rattle.registry_wire.specs.Attempts.Decoded.{malformed, decoded}
 use Rattle.registry_error.specs.Errors.{numberOf}

@@ -1,6 +1,6 @@
 // A ledger: both arrays with their counts, as a host lends them or as a value.
-use registry_state::state::CredentialState;
 use registry_state::state::RegistryState;
+use registry_state_credential::state::CredentialState;
 ghost use mathlib.Core.Path.{_≡_};
 ghost use mathlib.Core.List.{[]};
 ghost use Rattle.ledger_image.specs.Images.{ledgerOf};

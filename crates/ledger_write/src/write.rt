@@ -6,7 +6,7 @@ use ledger_row_image::row_image::write_rows;
 use ledger_written::answer::Written;
 use ledger_written::answer::is_refused;
 use ledger_written::answer::writing;
-use registry_state::state::CredentialState;
+use registry_state_credential::state::CredentialState;
 use registry_state::state::RegistryState;
 ghost use mathlib.Core.Path.{_≡_};
 ghost use Rattle.ledger_step.specs.Ledgers.{lentLedger};

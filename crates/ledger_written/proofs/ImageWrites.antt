@@ -19,7 +19,7 @@ use Rattle.laws.proofs.Room.{put-sets, length-put, sets-append}
 use Rattle.registry_bytes.proofs.StateWrites.{part-stored}
 use Rattle.registry_state.specs.States.{Registry, viewRegistry, registryBytes}
 use Rattle.registry_state.specs.declared.state.RegistryState.{RegistryState}
-use Rattle.registry_state.specs.declared.state.CredentialState.{CredentialState}
+use Rattle.registry_state_credential.specs.declared.state.CredentialState.{CredentialState}
 use Rattle.registry_state.proofs.StateLoops.{length-registry}
 use Rattle.ledger_step.specs.Ledgers.{Ledger, heldOf, lentLedger, sound}
 use Rattle.ledger_step.proofs.Rules.{parts}

@@ -8,7 +8,7 @@ use mathlib.Core.List.{List}
 use mathlib.Core.Bool.{Bool, true, false, not, cond, _&&_, false≢true}
 use lib.ListN.{length}
 use Rattle.cesr.specs.Primitives.{eqSaid}
-use Rattle.cesr.specs.declared.number.Sn.{Sn}
+use Rattle.cesr_sn.specs.declared.number.Sn.{Sn}
 use Rattle.cesr.specs.declared.primitive.Said.{Said}
 use Rattle.cesr.specs.declared.primitive.BasicPrefix.{BasicPrefix}
 use Rattle.events_tel.specs.Configs.{noBackers}

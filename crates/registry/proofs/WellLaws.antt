@@ -10,7 +10,7 @@ use Rattle.laws.proofs.Tests.{and-left, and-right}
 use Rattle.cesr.specs.Primitives.{isSaid}
 use Rattle.cesr.specs.declared.primitive.Said.{Said}
 use Rattle.cesr.specs.declared.primitive.BasicPrefix.{BasicPrefix}
-use Rattle.cesr.specs.declared.number.Sn.{Sn}
+use Rattle.cesr_sn.specs.declared.number.Sn.{Sn}
 use Rattle.events_tel.specs.Configs.{viewConfigs}
 use Rattle.events.specs.Members.{view, has}
 use Rattle.events_tel.specs.TelEvents.Event.{vrt}

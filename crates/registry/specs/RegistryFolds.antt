@@ -6,7 +6,7 @@ use mathlib.Core.Bool.{true, false, not, cond}
 use lib.Dec.{leb}
 use lib.ListN.{length}
 use Rattle.cesr.specs.Primitives.{eqSaid}
-use Rattle.cesr.specs.declared.number.Sn.{Sn}
+use Rattle.cesr_sn.specs.declared.number.Sn.{Sn}
 use Rattle.cesr.specs.declared.primitive.Said.{Said}
 use Rattle.cesr.specs.declared.primitive.BasicPrefix.{BasicPrefix}
 use Rattle.events.specs.Members.{checkDeltas, checkCurrent}

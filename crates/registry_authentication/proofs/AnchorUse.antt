@@ -15,7 +15,7 @@ use lib.ListN.{length}
 use Rattle.laws.specs.Number.{Bytes}
 use Rattle.laws.proofs.Tests.{and-left, and-right}
 use Rattle.cesr.specs.Primitives.{readMatter}
-use Rattle.cesr.specs.declared.number.Sn.{Sn}
+use Rattle.cesr_sn.specs.declared.number.Sn.{Sn}
 use Rattle.cesr.specs.declared.primitive.Matter.{Matter}
 use Rattle.cesr.specs.declared.primitive.Said.{Said}
 use Rattle.codec.specs.Layout.{joined, all, goodEvent, goodIdentifier}

@@ -1,5 +1,5 @@
 // The issuer's evidence and the anchoring event (docs/RULES.md, "Evidence", "Anchoring events").
-use cesr::number::Sn;
+use cesr_sn::number::Sn;
 use cesr::primitive::Matter;
 use cesr::primitive::Said;
 use codec_cursor::cursor::Cursor;

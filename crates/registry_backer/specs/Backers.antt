@@ -5,9 +5,9 @@ use mathlib.Core.Bool.{Bool, false, _&&_}
 use lib.Dec.{eqb, leb}
 use lib.ListN.{length}
 use Rattle.laws.specs.Words.{sameList}
-use Rattle.cesr.specs.Numbers.{value}
+use Rattle.cesr_sn.specs.Numbers.{value}
 use Rattle.cesr.specs.Primitives.{eqMatter, eqSaid}
-use Rattle.cesr.specs.declared.number.Sn.{Sn}
+use Rattle.cesr_sn.specs.declared.number.Sn.{Sn}
 use Rattle.cesr.specs.declared.primitive.Said.{Said}
 use Rattle.cesr.specs.declared.primitive.BasicPrefix.{BasicPrefix}
 use Rattle.events_seal.specs.Identifiers.{matterOf}

@@ -1,5 +1,5 @@
 // The authority of a bis or brv, and its receipts (docs/RULES.md, "Evidence", "Receipts").
-use cesr::number::Sn;
+use cesr_sn::number::Sn;
 use cesr::primitive::Said;
 use codec_cursor::cursor::Cursor;
 use events_seal::seal::Seal;

@@ -16,10 +16,10 @@ use Rattle.laws.specs.Room.{put}
 use Rattle.laws.proofs.Number.{length-digits}
 use Rattle.laws.proofs.Room.{put-sets, sets-append}
 use Rattle.laws.proofs.Views.{take-step}
-use Rattle.cesr.specs.declared.number.Sn.{Sn}
+use Rattle.cesr_sn.specs.declared.number.Sn.{Sn}
 use Rattle.cesr.specs.declared.primitive.Matter.{Matter}
 use Rattle.cesr.specs.declared.primitive.BasicPrefix.{BasicPrefix}
-use Rattle.cesr.specs.Numbers.{value, snBytes}
+use Rattle.cesr_sn.specs.Numbers.{value, snBytes}
 use Rattle.cesr.specs.Primitives.{matterBytes}
 use Rattle.cesr.proofs.Matters.{length-matter}
 use Rattle.events.specs.Members.{noPrefix, at}

@@ -3,7 +3,7 @@ use Prim.Native.Nat.{ℕ}
 use mathlib.Core.List.{List, [], _∷_}
 use mathlib.Core.Bool.{Bool, cond, _&&_}
 use lib.Dec.{eqb}
-use Rattle.cesr.specs.Numbers.{value}
+use Rattle.cesr_sn.specs.Numbers.{value}
 use Rattle.cesr.specs.Primitives.{eqMatter, eqSaid}
 use Rattle.cesr.specs.declared.primitive.Matter.{Matter}
 use Rattle.cesr.specs.declared.primitive.Said.{Said}
@@ -11,7 +11,7 @@ use Rattle.registry_state.specs.States.{Registry}
 use Rattle.registry_status.specs.Statuses.{Reference, Status, StatusAnswer, decodeStatus}
 use Rattle.registry_status.specs.Statuses.Reference.{unnamed, named, block}
 use Rattle.registry_status.specs.Statuses.StatusAnswer.{malformed, decoded}
-use Rattle.registry_state.specs.declared.state.CredentialState.{CredentialState}
+use Rattle.registry_state_credential.specs.declared.state.CredentialState.{CredentialState}
 use Rattle.registry_credential_error.specs.CredentialErrors.{errorNumber}
 use Rattle.registry_credential_error.specs.declared.credential_error.CredentialError.{CredentialError}
 use Rattle.registry_credential_error.specs.declared.credential_error.CredentialError.the-variants.{MissingRegistry, MissingCredentialState, MissingIssuerState, MissingRegistryReference, RegistryMismatch, IssuerMismatch, IssuerStateMismatch, CredentialStateMismatch, Revoked}

@@ -1,5 +1,5 @@
 // Whether a credential is its issuer's and stands unrevoked under its registry (docs/RULES.md, "Status").
-use cesr::number::Sn;
+use cesr_sn::number::Sn;
 use registry_credential_error::credential_error::CredentialError;
 use registry_status::status::StatusInput;
 ghost use mathlib.Core.Path.{_≡_};

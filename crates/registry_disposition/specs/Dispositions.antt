@@ -2,8 +2,8 @@
 use Prim.Native.Nat.{ℕ}
 use mathlib.Core.Bool.{cond}
 use lib.Dec.{ltb}
-use Rattle.cesr.specs.Numbers.{value}
-use Rattle.cesr.specs.declared.number.Sn.{Sn}
+use Rattle.cesr_sn.specs.Numbers.{value}
+use Rattle.cesr_sn.specs.declared.number.Sn.{Sn}
 use Rattle.registry_disposition.specs.declared.disposition.EvidenceKind.{EvidenceKind}
 use Rattle.registry_disposition.specs.declared.disposition.EvidenceKind.the-variants as E
 use Rattle.registry_disposition.specs.declared.disposition.Disposition.{Disposition}

@@ -1,5 +1,5 @@
 // What the sender of an attempt that is turned down is to do (docs/RULES.md, "Refusals").
-use cesr::number::Sn;
+use cesr_sn::number::Sn;
 ghost use mathlib.Core.Path.{_≡_};
 ghost use Rattle.registry_disposition.specs.Dispositions.{outOfOrder, letterOf};
 

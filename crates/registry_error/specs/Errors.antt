@@ -1,7 +1,7 @@
 -- The refusals: their numbers, dispositions and details (docs/RULES.md, "Refusals").
 use Prim.Native.Nat.{ℕ}
 use mathlib.Core.List.{List, [], _∷_}
-use Rattle.cesr.specs.Numbers.{value}
+use Rattle.cesr_sn.specs.Numbers.{value}
 use Rattle.events.specs.Members.{ruleOf}
 use Rattle.registry_error.specs.declared.error.RegistryRejection.{RegistryRejection}
 use Rattle.registry_error.specs.declared.error.RegistryRejection.the-variants as R

@@ -1,5 +1,5 @@
 // Why an attempt is turned down, and what its sender is to do (docs/RULES.md, "Refusals").
-use cesr::number::Sn;
+use cesr_sn::number::Sn;
 use events::member_set::Rule;
 use registry_disposition::disposition::Disposition;
 use registry_disposition::disposition::EvidenceKind;

@@ -1,10 +1,10 @@
 // The inception of a registry (docs/RULES.md, "Orders", "Next states").
-use cesr::number::Sn;
 use cesr::primitive::Matter;
 use cesr::primitive::Said;
+use cesr_sn::number::Sn;
 use codec::section::members_in;
-use events::member_set::MemberSet;
 use events::member_set::Members;
+use events_member_set::member_set::MemberSet;
 use events_tel::tel::Kind;
 use events_tel::tel::TelEvent;
 use events_toad::toad::Toad;

@@ -1,5 +1,5 @@
 // The fold of a credential's first event, its issue (docs/RULES.md, "Orders", "Next states").
-use cesr::number::Sn;
+use cesr_sn::number::Sn;
 use cesr::primitive::Said;
 use events_tel::tel::Kind;
 use events_tel::tel::TelEvent;
@@ -13,7 +13,7 @@ use registry_management::management::Backing;
 use registry_management::management::Management;
 use registry_management::management::backing_of;
 use registry_management::management::management_of;
-use registry_state::state::CredentialState;
+use registry_state_credential::state::CredentialState;
 use registry_state::state::RegistryState;
 use registry_wire::attempt::Attempt;
 ghost use mathlib.Core.Path.{_≡_};

@@ -8,9 +8,9 @@ use native.Mathlib.Decide.{decLt}
 use borrow.Author.Tests.{eqb-true, eqb-false, ltb-true}
 use lib.Dec.{eqb, ltb}
 use Rattle.laws.proofs.Tests.{and-left, and-right}
-use Rattle.cesr.specs.Numbers.{value}
-use Rattle.cesr.specs.declared.number.Sn.{Sn}
-use Rattle.cesr.proofs.Words.{value-words, value-fits}
+use Rattle.cesr_sn.specs.Numbers.{value}
+use Rattle.cesr_sn.specs.declared.number.Sn.{Sn}
+use Rattle.cesr_sn.proofs.Words.{value-words, value-fits}
 use Rattle.codec.specs.Layout.{goodSn}
 use Rattle.registry_answer.specs.Answers.{accepts, acceptIf}
 use Rattle.registry_error.specs.declared.error.Answer.the-variants.{Rejected}

@@ -7,8 +7,8 @@ use mathlib.Core.Path.{_≡_, refl}
 use mathlib.Core.List.{List, [], _∷_}
 use mathlib.Core.Bool.{_&&_}
 use lib.Dec.{eqb}
-use Rattle.cesr.specs.Numbers.{value}
-use Rattle.cesr.specs.declared.number.Sn.{Sn}
+use Rattle.cesr_sn.specs.Numbers.{value}
+use Rattle.cesr_sn.specs.declared.number.Sn.{Sn}
 use Rattle.cesr.specs.declared.primitive.Matter.{Matter}
 use Rattle.cesr.specs.declared.primitive.Said.{Said}
 use Rattle.cesr.specs.declared.primitive.BasicPrefix.{BasicPrefix}
@@ -20,9 +20,10 @@ use Rattle.events.specs.declared.member_set.Rule.the-variants.{DuplicateBacker,
 use Rattle.events.specs.declared.member_set.Membership.the-variants.{Broken}
 use Rattle.events_seal.specs.declared.seal.Seal.{Seal}
 use Rattle.events_seal.specs.declared.seal.Seal.the-variants.{Digest, Root, Source as SourceSeal, Event as EventSeal, Last, Back, Kind, Opaque}
-use Rattle.registry_state.specs.States.{Registry, viewRegistry, wellRegistry, wellCredential, noCredential}
+use Rattle.registry_state.specs.States.{Registry, viewRegistry, wellRegistry}
+use Rattle.registry_state_credential.specs.CredentialStates.{wellCredential, noCredential}
 use Rattle.registry_state.specs.declared.state.RegistryState.{RegistryState}
-use Rattle.registry_state.specs.declared.state.CredentialState.{CredentialState}
+use Rattle.registry_state_credential.specs.declared.state.CredentialState.{CredentialState}
 use Rattle.registry_wire.specs.Attempts.{Message, Anchor, Evidence, decodeOf}
 use Rattle.registry_signatures.specs.SignatureSections.{Signature}
 use Rattle.registry_wire.specs.Attempts.Decoded.{decoded}

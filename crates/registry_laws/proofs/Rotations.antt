@@ -10,8 +10,8 @@ use mathlib.Core.Bool.{Bool, true, false, not, cond, _&&_, _||_, false≢true}
 use lib.Dec.{eqb}
 use lib.ListN.{length}
 use Rattle.laws.proofs.Tests.{and-left}
-use Rattle.cesr.specs.Numbers.{value}
-use Rattle.cesr.specs.declared.number.Sn.{Sn}
+use Rattle.cesr_sn.specs.Numbers.{value}
+use Rattle.cesr_sn.specs.declared.number.Sn.{Sn}
 use Rattle.cesr.specs.declared.primitive.Said.{Said}
 use Rattle.cesr.specs.declared.primitive.BasicPrefix.{BasicPrefix}
 use Rattle.events_tel.specs.Configs.{noBackers}

@@ -6,16 +6,17 @@ use mathlib.Core.Logic.{_≢_}
 use mathlib.Core.List.{List}
 use mathlib.Core.Bool.{cond, _&&_}
 use Rattle.cesr.specs.Primitives.{eqMatter}
-use Rattle.cesr.specs.declared.number.Sn.{Sn}
+use Rattle.cesr_sn.specs.declared.number.Sn.{Sn}
 use Rattle.cesr.specs.declared.primitive.Said.{Said}
 use Rattle.events_seal.specs.Identifiers.{matterOf}
 use Rattle.events_tel.specs.TelEvents.{Event}
 use Rattle.events_tel.specs.TelEvents.Event.{vcp, vrt, iss, rev, bis, brv}
 use Rattle.events_seal.specs.declared.seal.Seal.{Seal}
 use Rattle.events_seal.specs.declared.seal.Seal.the-variants.{Digest, Root, Source, Event as EventSeal, Last, Back, Kind, Opaque}
-use Rattle.registry_state.specs.States.{Registry, viewRegistry, wellRegistry, wellCredential, noCredential}
+use Rattle.registry_state.specs.States.{Registry, viewRegistry, wellRegistry}
+use Rattle.registry_state_credential.specs.CredentialStates.{wellCredential, noCredential}
 use Rattle.registry_state.specs.declared.state.RegistryState.{RegistryState}
-use Rattle.registry_state.specs.declared.state.CredentialState.{CredentialState}
+use Rattle.registry_state_credential.specs.declared.state.CredentialState.{CredentialState}
 use Rattle.registry_wire.specs.Attempts.{Message, Evidence, Decoded, decodeOf}
 use Rattle.registry_signatures.specs.SignatureSections.{Signature}
 use Rattle.registry_wire.specs.Attempts.Decoded.{malformed, decoded}

@@ -8,7 +8,7 @@ use Rattle.events_seal.specs.declared.identifier.Identifier.{Identifier}
 use Rattle.events_seal.specs.declared.identifier.Identifier.the-variants.{Basic, SelfAddressing}
 use Rattle.events_seal.specs.declared.seal.Seal.{Seal}
 use Rattle.events_seal.specs.declared.seal.Seal.the-variants.{Digest, Root, Source, Event as EventSeal, Last, Back, Kind, Opaque}
-use Rattle.registry_state.specs.declared.state.CredentialState.{CredentialState}
+use Rattle.registry_state_credential.specs.declared.state.CredentialState.{CredentialState}
 use Rattle.registry_wire.specs.Attempts.{Decoded, decodeOf}
 use Rattle.registry_wire.specs.Attempts.Decoded.{malformed, decoded}
 

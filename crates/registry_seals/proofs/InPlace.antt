@@ -6,9 +6,9 @@ use mathlib.Core.List.{List}
 use mathlib.Core.Bool.{Bool, true, false, cond, _&&_}
 use lib.Dec.{eqb}
 use lib.ListN.{length}
-use Rattle.cesr.specs.Numbers.{value, readSn}
+use Rattle.cesr_sn.specs.Numbers.{value, readSn}
 use Rattle.cesr.specs.Primitives.{readMatter, eqMatter}
-use Rattle.cesr.specs.declared.number.Sn.{Sn}
+use Rattle.cesr_sn.specs.declared.number.Sn.{Sn}
 use Rattle.cesr.specs.declared.primitive.Matter.{Matter}
 use Rattle.cesr.specs.declared.primitive.Said.{Said}
 use Rattle.events_seal.specs.declared.seal.Seal.{Seal}

@@ -4,9 +4,9 @@ use mathlib.Core.List.{List, [], _∷_}
 use mathlib.Core.Bool.{Bool, false, cond, _&&_}
 use lib.Dec.{eqb}
 use lib.ListN.{length, drop}
-use Rattle.cesr.specs.Numbers.{value}
+use Rattle.cesr_sn.specs.Numbers.{value}
 use Rattle.cesr.specs.Primitives.{eqMatter, eqSaid}
-use Rattle.cesr.specs.declared.number.Sn.{Sn}
+use Rattle.cesr_sn.specs.declared.number.Sn.{Sn}
 use Rattle.cesr.specs.declared.primitive.Matter.{Matter}
 use Rattle.cesr.specs.declared.primitive.Said.{Said}
 use Rattle.events_seal.specs.Identifiers.{matterOf}

@@ -1,7 +1,7 @@
 // The anchoring event that is used, and its seals, out of lent bytes (docs/RULES.md, "Anchoring events").
-use cesr::number::Sn;
 use cesr::primitive::Matter;
 use cesr::primitive::Said;
+use cesr_sn::number::Sn;
 use codec_cursor::cursor::Cursor;
 ghost use mathlib.Core.Path.{_≡_};
 ghost use Rattle.registry_seals.specs.SealSections.{chosen, sealSection, chosenSeals, anchorSeals};

@@ -1,9 +1,9 @@
--- Readers and layouts agree, for states.
---     codes-registry, codes-credential     what is read is exactly what the layout writes, within the limits
---     registry-back, credential-back       a state that was written is read
---     registry-again, credential-again     a state that was read writes the same bytes
---     registry-good, credential-good       a state that is handed in and well-formed is within the limits of the layout
---     registry-read                        a registry state that was read is well-formed, where its counts are within the limits
+-- The reader and the layout agree, for the state of a registry.
+--     codes-registry     what is read is exactly what the layout writes, within the limits
+--     registry-back      a state that was written is read
+--     registry-again     a state that was read writes the same bytes
+--     registry-good      a state that is handed in and well-formed is within the limits of the layout
+--     registry-read      a state that was read is well-formed, where its counts are within the limits
 use Prim.Native.Nat.{ℕ, _+_, _≤_}
 use mathlib.Core.Path.{_≡_, refl, sym, ap, _∙_}
 use mathlib.Core.List.{List, [], _∷_}
@@ -23,16 +23,15 @@ use Rattle.codec_cursor.specs.Readers.{Read, placed, isIdentifier}
 use Rattle.codec.specs.Events.{isConfig}
 use Rattle.codec.specs.Layout.{all, isMatter, goodSaid, goodIdentifier, goodSn, goodToad, goodConfigs, goodPrefix, goodPrefixes}
 use Rattle.codec_laws.proofs.CodesRound.{codes-back, codes-again}
-use Rattle.cesr.specs.declared.number.Sn.{Sn}
+use Rattle.cesr_sn.specs.declared.number.Sn.{Sn}
 use Rattle.cesr.specs.declared.primitive.Matter.{Matter}
 use Rattle.cesr.specs.declared.primitive.Said.{Said}
 use Rattle.cesr.specs.declared.primitive.BasicPrefix.{BasicPrefix}
 use Rattle.codec_laws.proofs.Codes.{Codes, and-true, codes-map, codes-both, codes-quad, codes-sn, codes-said, codes-identifier}
 use Rattle.codec_laws.proofs.CodesSeal.{codes-configs, codes-prefixes}
-use Rattle.registry_state.specs.States.{Registry, registryBytes, credentialBytes, goodRegistry, goodCredential, registryOf, readRegistry, credentialOf, readCredential, viewRegistry, isBacker, wellRegistry, wellCredential, rangedRegistry, rangedCredential}
+use Rattle.registry_state.specs.States.{Registry, registryBytes, goodRegistry, registryOf, readRegistry, viewRegistry, isBacker, wellRegistry, rangedRegistry}
 use Rattle.registry_state.specs.declared.state.RegistryState.{RegistryState}
 use Rattle.registry_state.proofs.StateLoops.{all-weaker}
-use Rattle.registry_state.specs.declared.state.CredentialState.{CredentialState}
 
 registryParts : Registry → Said × (Matter × (Sn × (Said × (ℕ × (List ℕ × List BasicPrefix)))))
 registryParts g = (g .id, (g .issuer, (g .sn, (g .latest, (g .toad, (g .configs, g .backers))))))
@@ -43,26 +42,11 @@ codes-registry =
     codes-map registryOf registryParts goodRegistry (λ t h. (refl, h)) (λ g h. (refl, h))
     (codes-both codes-said (codes-both codes-identifier (codes-both codes-sn (codes-both codes-said (codes-both codes-quad (codes-both codes-configs codes-prefixes))))))
 
-credentialParts : CredentialState → Said × (Said × (Sn × Said))
-credentialParts w = (w .registry, (w .credential, (w .sn, w .head)))
-
-pub codes-credential : Codes readCredential credentialBytes goodCredential
-unfolding readCredential credentialBytes goodCredential credentialParts
-codes-credential =
-    codes-map credentialOf credentialParts goodCredential (λ t h. (refl, h)) (λ w h. (refl, h))
-    (codes-both codes-said (codes-both codes-said (codes-both codes-sn codes-said)))
-
 pub registry-back : (l : List ℕ) (at : ℕ) (g : Registry) → goodRegistry g ≡ true → at + length (registryBytes g) ≤ length l → readRegistry (put l at (registryBytes g)) (placed at) ≡ record { value = g; next = placed (at + length (registryBytes g)) }
 registry-back = codes-back codes-registry
 
 pub registry-again : (l : List ℕ) (at : ℕ) → Bytes l → readRegistry l (placed at) .next .ok ≡ true → put l at (registryBytes (readRegistry l (placed at) .value)) ≡ l
 registry-again = codes-again codes-registry
-
-pub credential-back : (l : List ℕ) (at : ℕ) (w : CredentialState) → goodCredential w ≡ true → at + length (credentialBytes w) ≤ length l → readCredential (put l at (credentialBytes w)) (placed at) ≡ record { value = w; next = placed (at + length (credentialBytes w)) }
-credential-back = codes-back codes-credential
-
-pub credential-again : (l : List ℕ) (at : ℕ) → Bytes l → readCredential l (placed at) .next .ok ≡ true → put l at (credentialBytes (readCredential l (placed at) .value)) ≡ l
-credential-again = codes-again codes-credential
 
 both-pass : {A : Type 0} (f g : A → Bool) (l : List A) → all f l ≡ true → all g l ≡ true → all (λ x. f x && g x) l ≡ true
 unfolding all
@@ -99,16 +83,6 @@ registry-good g w r =
     (and-true _ _ (short (g .configs .count) 8 (g .configs .codes) (and-left (leb (g .configs .count) 8) _ w)) (and-left (all isConfig configs) _ w5))
     (and-true _ _ (short (g .backers .count) 16 (g .backers .items) (and-left (leb (g .backers .count) 16) _ w1))
     (both-pass (λ p. isBasic (p .0)) (λ p. isMatter (p .0)) backers (and-right (all isConfig configs) _ w5) (and-right (goodToad (g .toad .0)) _ r4))))))))
-
-pub credential-good : (w : CredentialState) → wellCredential w ≡ true → rangedCredential w ≡ true → goodCredential w ≡ true
-unfolding wellCredential rangedCredential goodCredential goodSaid
-credential-good w h r =
-    let h1 = and-right (isSaid (w .registry .0)) _ h in
-    let r1 = and-right (isMatter (w .registry .0)) _ r in
-    let r2 = and-right (isMatter (w .credential .0)) _ r1 in
-    and-true _ _ (and-true _ _ (and-left (isSaid (w .registry .0)) _ h) (and-left (isMatter (w .registry .0)) _ r))
-    (and-true _ _ (and-true _ _ (and-left (isSaid (w .credential .0)) _ h1) (and-left (isMatter (w .credential .0)) _ r1))
-    (and-true _ _ (and-left (goodSn (w .sn)) _ r2) (and-true _ _ (and-right (isSaid (w .credential .0)) _ h1) (and-right (goodSn (w .sn)) _ r2))))
 
 -- a state within the limits of the layout is well-formed, where its counts are within theirs
 held-well : (g : RegistryState) → goodRegistry (viewRegistry g) ≡ true → g .configs .count ≤ 8 → g .backers .count ≤ 16 → wellRegistry g ≡ true

@@ -1,21 +1,19 @@
--- Laws of states.
+-- Laws of the state of a registry.
 --     all-pass, all-fail     how a loop finds whether every element passes a test
 --     all-weaker             every element passes a weaker test
---     length-credential      a credential state has 115 bytes
 --     length-registry        a registry state has 121, its config bytes, and 33 for each backer
---     credential-head, registry-head   the parts that states are written in
+--     registry-head          the parts that a state is written in
 use Prim.Native.Nat.{ℕ, zero, suc, _+_, _-_, _*_, _<_}
-use mathlib.Core.Path.{_≡_, refl, ap, _∙_}
+use mathlib.Core.Path.{_≡_, refl}
 use mathlib.Core.Bool.{Bool, true, false, and-false}
 use mathlib.Core.List.{List, [], _∷_, append-assoc}
 use native.Mathlib.Omega.{arith}
 use lib.ListN.{length, getD}
 use Rattle.laws.proofs.Tests.{and-left, and-right}
 use Rattle.codec.specs.Layout.{all}
-use Rattle.registry_state.specs.declared.state.CredentialState.{CredentialState}
 use Rattle.registry_bytes.specs.StateBytes.{headBytes, restBytes, stateBytes}
-use Rattle.registry_bytes.proofs.StateWrites.{length-head, length-state}
-use Rattle.registry_state.specs.States.{Registry, registryBytes, credentialBytes}
+use Rattle.registry_bytes.proofs.StateWrites.{length-state}
+use Rattle.registry_state.specs.States.{Registry, registryBytes}
 
 module _ {A : Type 0} (test : A → Bool) (none : A) where
   pub all-pass : (l : List A) → ((i : ℕ) → i < length l → test (getD l i none) ≡ true) → all test l ≡ true
@@ -35,16 +33,9 @@ unfolding all
 all-weaker p q [] w h = refl
 all-weaker p q (x ∷ l) w h = rw (w x (and-left (p x) (all p l) h)) (all-weaker p q l w (and-right (p x) (all p l) h))
 
-pub credential-head : (w : CredentialState) → credentialBytes w ≡ headBytes (w .registry .0) (w .credential .0) (w .sn) (w .head .0)
-unfolding credentialBytes headBytes
-credential-head w = refl
-
 pub registry-head : (g : Registry) → registryBytes g ≡ stateBytes (g .id .0) (g .issuer) (g .sn) (g .latest .0) (g .toad) (g .configs) (g .backers)
 unfolding registryBytes stateBytes headBytes restBytes
 registry-head g = simp append-assoc
-
-pub length-credential : (w : CredentialState) → length (credentialBytes w) ≡ 115
-length-credential w = ap length (credential-head w) ∙ length-head (w .registry .0) (w .credential .0) (w .sn) (w .head .0)
 
 pub length-registry : (g : Registry) → length (registryBytes g) ≡ 121 + length (g .configs) + 33 * length (g .backers)
 length-registry g = rw (registry-head g, length-state)

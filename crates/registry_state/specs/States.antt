@@ -1,12 +1,12 @@
--- States of registries and credentials: their layout and limits, and how they are read (docs/RULES.md, "Bytes").
+-- The state of a registry: its layout and limits, and how it is read (docs/RULES.md, "Bytes").
 use Prim.Native.Nat.{ℕ}
 use mathlib.Core.List.{List, [], _∷_, _++_}
 use mathlib.Core.Bool.{Bool, cond, _&&_}
 use lib.Dec.{leb, eqb}
 use Rattle.laws.specs.Number.{digits}
-use Rattle.cesr.specs.Numbers.{snBytes}
+use Rattle.cesr_sn.specs.Numbers.{snBytes}
 use Rattle.cesr.specs.Primitives.{none, matterBytes, isBasic, isSaid}
-use Rattle.cesr.specs.declared.number.Sn.{Sn}
+use Rattle.cesr_sn.specs.declared.number.Sn.{Sn}
 use Rattle.cesr.specs.declared.primitive.Matter.{Matter}
 use Rattle.cesr.specs.declared.primitive.Said.{Said}
 use Rattle.cesr.specs.declared.primitive.BasicPrefix.{BasicPrefix}
@@ -16,9 +16,7 @@ use Rattle.codec_cursor.specs.Readers.{Read, Reader, isIdentifier, readNumber, 
 use Rattle.codec.specs.Events.{isConfig, readConfigs, readPrefixes}
 use Rattle.codec.specs.Layout.{sectionBytes, all, saidBytes, prefixBytes, byteBytes, isMatter, goodSaid, goodIdentifier, goodSn, goodToad, goodConfigs, goodPrefixes}
 use Rattle.registry_state.specs.declared.state.RegistryState.{RegistryState}
-use Rattle.registry_state.specs.declared.state.CredentialState.{CredentialState}
 use Rattle.registry_state.specs.declared.state.RegistryRead.{RegistryRead}
-use Rattle.registry_state.specs.declared.state.CredentialRead.{CredentialRead}
 
 -- a registry as the rules see it: its config bytes and backers are lists
 pub record Registry : Type 0 where
@@ -43,21 +41,14 @@ registryBytes g =
     ++ (snBytes (g .sn)
     ++ (saidBytes (g .latest) ++ (digits 4 (g .toad) ++ (sectionBytes byteBytes (g .configs) ++ sectionBytes prefixBytes (g .backers))))))
 
--- a credential state: registry, credential, sn, head
-unfoldable pub credentialBytes : CredentialState → List ℕ
-credentialBytes w = saidBytes (w .registry) ++ (saidBytes (w .credential) ++ (snBytes (w .sn) ++ saidBytes (w .head)))
-
--- the limits of a registry state, and of a credential state
+-- the limits of a registry state
 unfoldable pub goodRegistry : Registry → Bool
 goodRegistry g =
     goodSaid (g .id)
     && (goodIdentifier (g .issuer)
     && (goodSn (g .sn) && (goodSaid (g .latest) && (goodToad (g .toad) && (goodConfigs (g .configs) && goodPrefixes (g .backers))))))
 
-unfoldable pub goodCredential : CredentialState → Bool
-goodCredential w = goodSaid (w .registry) && (goodSaid (w .credential) && (goodSn (w .sn) && goodSaid (w .head)))
-
--- how they are read
+-- how it is read
 abbrev pub registryOf : Said × (Matter × (Sn × (Said × (ℕ × (List ℕ × List BasicPrefix))))) → Registry
 registryOf t =
     record
@@ -66,12 +57,6 @@ registryOf t =
 unfoldable pub readRegistry : Reader Registry
 readRegistry s c =
     mapped registryOf (both readSaid (both readIdentifier (both readNumber (both readSaid (both readQuad (both readConfigs readPrefixes)))))) s c
-
-abbrev pub credentialOf : Said × (Said × (Sn × Said)) → CredentialState
-credentialOf t = record { registry = t .0; credential = t .1 .0; sn = t .1 .1 .0; head = t .1 .1 .1 }
-
-unfoldable pub readCredential : Reader CredentialState
-readCredential s c = mapped credentialOf (both readSaid (both readSaid (both readNumber readSaid))) s c
 
 -- a backer's letter is a basic prefix's
 abbrev pub isBacker : BasicPrefix → Bool
@@ -86,18 +71,12 @@ wellRegistry g =
     && (isIdentifier (g .issuer)
     && (isSaid (g .latest .0) && (all isConfig (viewConfigs (g .configs)) && all isBacker (view (g .backers)))))))
 
-unfoldable pub wellCredential : CredentialState → Bool
-wellCredential w = isSaid (w .registry .0) && (isSaid (w .credential .0) && isSaid (w .head .0))
-
 -- its words are words of 64 bits and its toad one of 32: so of every state that code can hold
 unfoldable pub rangedRegistry : RegistryState → Bool
 rangedRegistry g =
     isMatter (g .id .0)
     && (isMatter (g .issuer)
     && (goodSn (g .sn) && (isMatter (g .latest .0) && (goodToad (g .toad .0) && all (λ p. isMatter (p .0)) (view (g .backers))))))
-
-unfoldable pub rangedCredential : CredentialState → Bool
-rangedCredential w = isMatter (w .registry .0) && (isMatter (w .credential .0) && (goodSn (w .sn) && isMatter (w .head .0)))
 
 -- what stands where there is no state
 abbrev pub noSaid : Said
@@ -109,15 +88,9 @@ noSn = record { hi = 0; lo = 0 }
 abbrev pub noRegistry : Registry
 noRegistry = record { id = noSaid; issuer = none; sn = noSn; latest = noSaid; toad = 0; configs = []; backers = [] }
 
-abbrev pub noCredential : CredentialState
-noCredential = record { registry = noSaid; credential = noSaid; sn = noSn; head = noSaid }
-
--- what the structs of the code stand for
+-- what the struct of the code stands for
 abbrev pub viewRegistryRead : RegistryRead → Read Registry
 viewRegistryRead r = record { value = viewRegistry (r .value); next = r .next }
-
-abbrev pub viewCredentialRead : CredentialRead → Read CredentialState
-viewCredentialRead r = record { value = r .value; next = r .next }
 
 -- an element and its count, 0 or 1
 abbrev pub optional : {A : Type 0} → ℕ → A → List A

@@ -1,2 +1,2 @@
-// The states of registries and credentials, and the input of `status`, as values and as bytes (docs/RULES.md, "Bytes").
+// The state of a registry, as a value and as bytes (docs/RULES.md, "Bytes").
 pub mod state;

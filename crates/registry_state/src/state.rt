@@ -1,7 +1,7 @@
-// States of registries and credentials. They hold numbers alone, since a host lends them as memory and every pattern of bits has to be a value.
-use cesr::number::Sn;
+// The state of a registry. It holds numbers alone, since a host lends it as memory and every pattern of bits has to be a value.
 use cesr::primitive::Matter;
 use cesr::primitive::Said;
+use cesr_sn::number::Sn;
 use codec::section::pass_prefixes;
 use codec::section::read_configs;
 use codec::section::read_prefixes;
@@ -10,7 +10,6 @@ use events::member_set::Members;
 use events_tel::config::Configs;
 use events_toad::toad::Toad;
 use registry_bytes::writer::state_size;
-use registry_bytes::writer::write_credential;
 use registry_bytes::writer::write_registry;
 ghost use mathlib.Core.Path.{_≡_};
 ghost use mathlib.Core.Bool.{true};
@@ -21,7 +20,7 @@ ghost use Rattle.events_tel.specs.Configs.{viewConfigs};
 ghost use Rattle.events.specs.Members.{view};
 ghost use Rattle.codec.specs.Events.{isConfig};
 ghost use Rattle.codec.specs.Layout.{all};
-ghost use Rattle.registry_state.specs.States.{viewRegistry, registryBytes, credentialBytes, readRegistry, readCredential, viewRegistryRead, viewCredentialRead, noRegistry, noCredential, isBacker, wellRegistry, wellCredential};
+ghost use Rattle.registry_state.specs.States.{viewRegistry, registryBytes, readRegistry, viewRegistryRead, noRegistry, isBacker, wellRegistry};
 
 #[repr(C)]
 pub struct RegistryState {
@@ -36,22 +35,8 @@ pub struct RegistryState {
     pub backers: Members,
 }
 
-#[repr(C)]
-pub struct CredentialState {
-    pub registry: Said,
-    pub credential: Said,
-    pub sn: Sn,
-    // The digest of the last event.
-    pub head: Said,
-}
-
 pub struct RegistryRead {
     pub value: RegistryState,
-    pub next: Cursor,
-}
-
-pub struct CredentialRead {
-    pub value: CredentialState,
     pub next: Cursor,
 }
 
@@ -151,63 +136,6 @@ impl RegistryState {
             backers,
         };
         RegistryRead { value, next }
-    }
-}
-
-impl CredentialState {
-    // What stands where there is no credential.
-    pub fn none() -> CredentialState
-        ensures { λ r. ⌜ r ≡ noCredential ⌝ }
-    {
-        let none = Matter::none();
-        CredentialState {
-            registry: Said(none),
-            credential: Said(none),
-            sn: Sn { hi: 0, lo: 0 },
-            head: Said(none),
-        }
-    }
-
-    // Whether its letters are those of digests.
-    pub fn well_formed(self) -> bool
-        ensures { λ r. ⌜ r ≡ wellCredential self ⌝ }
-    {
-        self.registry.0.is_said() & (self.credential.0.is_said() & self.head.0.is_said())
-    }
-
-    // Stores all its 115 bytes or none, and answers which.
-    pub fn write(self, out: &mut [u8], at: usize) -> bool
-        ensures { λ r. ⌜ (r ≡ room (now (out .entry)) at 115) × (now (out .exit) ≡ put (now (out .entry)) at (credentialBytes self)) ⌝ }
-    {
-        write_credential(
-            out,
-            at,
-            self.registry.0,
-            self.credential.0,
-            self.sn,
-            self.head.0,
-        )
-    }
-
-    pub fn read(c: Cursor, s: &[u8]) -> CredentialRead
-        ensures { λ r. ⌜ viewCredentialRead r ≡ readCredential (now (s .entry)) c ⌝ }
-    {
-        let registry = c.said(s);
-        let credential = registry.next.said(s);
-        let sn = credential.next.sn(s);
-        let head = sn.next.said(s);
-        let next = head.next;
-        let registry = registry.value;
-        let credential = credential.value;
-        let sn = sn.value;
-        let head = head.value;
-        let value = CredentialState {
-            registry,
-            credential,
-            sn,
-            head,
-        };
-        CredentialRead { value, next }
     }
 }
 

@@ -21,12 +21,14 @@ use Rattle.codec_laws.proofs.Codes.{Told, Codes, led, leads, shift, mapped-is, 
 use Rattle.codec_laws.proofs.CodesList.{codes-section}
 use Rattle.codec_laws.proofs.CodesPlain.{plain, plain-told}
 use Rattle.codec_laws.proofs.CodesRound.{whole-sound, whole-complete}
-use Rattle.registry_state.specs.States.{Registry, registryBytes, credentialBytes, goodRegistry, goodCredential, readRegistry, readCredential}
+use Rattle.registry_state.specs.States.{Registry, registryBytes, goodRegistry, readRegistry}
+use Rattle.registry_state_credential.specs.CredentialStates.{credentialBytes, goodCredential, readCredential}
 use Rattle.registry_status.specs.Statuses.{Reference, Status, referenceBytes, statusBytes, goodReference, goodOptional, goodStatus, readReference, readRegistries, readCredentials, readIssuers, statusOf, readStatus, decodeStatus}
 use Rattle.registry_status.specs.Statuses.Reference.{unnamed, named, block}
 use Rattle.registry_status.specs.Statuses.StatusAnswer.{malformed, decoded}
-use Rattle.registry_state.specs.declared.state.CredentialState.{CredentialState}
-use Rattle.registry_state.proofs.CodesState.{codes-registry, codes-credential}
+use Rattle.registry_state_credential.specs.declared.state.CredentialState.{CredentialState}
+use Rattle.registry_state.proofs.CodesState.{codes-registry}
+use Rattle.registry_state_credential.proofs.CodesCredential.{codes-credential}
 
 -- what stands behind the byte about the registry
 abbrev referenceTail : Reference → List ℕ

@@ -9,7 +9,7 @@ use Rattle.cesr.specs.declared.primitive.Matter.{Matter}
 use Rattle.cesr.specs.declared.primitive.Said.{Said}
 use Rattle.codec_cursor.specs.Readers.{Read, Reader, starting, need, readByte, readIdentifier, readSaid, mapped, both, section}
 use Rattle.codec.specs.Layout.{sectionBytes, all, saidBytes, goodSaid, goodIdentifier}
-use Rattle.registry_state.specs.declared.state.CredentialState.{CredentialState}
+use Rattle.registry_state_credential.specs.declared.state.CredentialState.{CredentialState}
 use Rattle.registry_status.specs.declared.status.StatusInput.{StatusInput}
 use Rattle.registry_status.specs.declared.status.DecodedStatus.{DecodedStatus}
 use Rattle.registry_status.specs.declared.status.ReferenceRead.{ReferenceRead}
@@ -17,7 +17,8 @@ use Rattle.registry_status.specs.declared.status.RegistriesRead.{Registr
 use Rattle.registry_status.specs.declared.status.CredentialsRead.{CredentialsRead}
 use Rattle.registry_status.specs.declared.status.IssuersRead.{IssuersRead}
 use Rattle.registry_status.specs.declared.status.StatusRead.{StatusRead}
-use Rattle.registry_state.specs.States.{Registry, viewRegistry, registryBytes, credentialBytes, goodRegistry, goodCredential, readRegistry, readCredential, optional}
+use Rattle.registry_state.specs.States.{Registry, viewRegistry, registryBytes, goodRegistry, readRegistry, optional}
+use Rattle.registry_state_credential.specs.CredentialStates.{credentialBytes, goodCredential, readCredential}
 
 -- what a credential says of its registry: nothing, a digest that names it, or a block
 pub data Reference : Type 0 where

@@ -3,8 +3,8 @@ use cesr::primitive::Matter;
 use cesr::primitive::Said;
 use codec::section::count_up_to;
 use codec_cursor::cursor::Cursor;
-use registry_state::state::CredentialState;
 use registry_state::state::RegistryState;
+use registry_state_credential::state::CredentialState;
 ghost use mathlib.Core.Path.{_≡_};
 ghost use Rattle.registry_status.specs.Statuses.{readReference, readRegistries, readCredentials, readIssuers, readStatus, decodeStatus, viewReferenceRead, viewRegistriesRead, viewCredentialsRead, viewIssuersRead, viewStatusRead, viewDecodedStatus};
 

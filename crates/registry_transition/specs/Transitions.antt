@@ -3,7 +3,7 @@ use mathlib.Core.List.{[], _∷_}
 use Rattle.cesr.specs.Primitives.{eqSaid}
 use Rattle.cesr.specs.declared.primitive.Said.{Said}
 use Rattle.events_tel.specs.TelEvents.{snOne}
-use Rattle.registry_state.specs.declared.state.CredentialState.{CredentialState}
+use Rattle.registry_state_credential.specs.declared.state.CredentialState.{CredentialState}
 use Rattle.registry_error.specs.declared.error.RegistryRejection.the-variants.{PriorDigestMismatch, InconsistentCredential}
 use Rattle.registry_error.specs.declared.error.Answer.{Answer}
 use Rattle.registry_answer.specs.Answers.{acceptIf, firstOf}

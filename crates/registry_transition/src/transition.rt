@@ -1,11 +1,11 @@
 // The place of a revocation behind the held state of its credential (docs/RULES.md, "Orders").
-use cesr::number::Sn;
 use cesr::primitive::Said;
+use cesr_sn::number::Sn;
 use registry_answer::answer::accept_if;
 use registry_answer::answer::or_else;
 use registry_error::error::Answer;
 use registry_error::error::RegistryRejection;
-use registry_state::state::CredentialState;
+use registry_state_credential::state::CredentialState;
 use registry_verification::sequence::next_sn;
 ghost use mathlib.Core.Path.{_≡_};
 ghost use Rattle.registry_transition.specs.Transitions.{transition};

@@ -2,7 +2,7 @@
 use mathlib.Core.Path.{_≡_, refl, sym}
 use mathlib.Core.Logic.{_≢_}
 use mathlib.Core.Bool.{Bool, true, false}
-use Rattle.cesr.specs.Numbers.{value, snOf}
+use Rattle.cesr_sn.specs.Numbers.{value, snOf}
 use Rattle.cesr.specs.Primitives.{eqPrefix}
 use Rattle.cesr.specs.declared.primitive.BasicPrefix.{BasicPrefix}
 use Rattle.cesr.proofs.Matters.{eq-prefix, prefix-eq}

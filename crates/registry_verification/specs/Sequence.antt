@@ -2,8 +2,8 @@
 use Prim.Native.Nat.{_+_, _-_, _^_}
 use mathlib.Core.Bool.{cond}
 use lib.Dec.{eqb}
-use Rattle.cesr.specs.Numbers.{value, snOf}
-use Rattle.cesr.specs.declared.number.Sn.{Sn}
+use Rattle.cesr_sn.specs.Numbers.{value, snOf}
+use Rattle.cesr_sn.specs.declared.number.Sn.{Sn}
 use Rattle.registry_error.specs.declared.error.RegistryRejection.the-variants.{SequenceNumberOverflow, OutOfOrder}
 use Rattle.registry_error.specs.declared.error.Answer.{Answer}
 use Rattle.registry_error.specs.declared.error.Answer.the-variants.{Rejected}

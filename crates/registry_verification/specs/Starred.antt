@@ -3,7 +3,7 @@ use Prim.Native.Nat.{ℕ}
 use mathlib.Core.Path.{_≡_}
 use mathlib.Core.Logic.{_≢_}
 use mathlib.Core.List.{List, [], _∷_}
-use Rattle.cesr.specs.Numbers.{snOf}
+use Rattle.cesr_sn.specs.Numbers.{snOf}
 use Rattle.cesr.specs.declared.primitive.BasicPrefix.{BasicPrefix}
 use Rattle.events_toad.specs.Toads.{toadOf, exactOf, ampleOf}
 use Rattle.events_toad.specs.declared.toad.ToadResult.the-variants.{Valid, OutOfRange}

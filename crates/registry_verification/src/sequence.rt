@@ -1,5 +1,5 @@
 // The place of an event behind a state (docs/RULES.md, "Refusals").
-use cesr::number::Sn;
+use cesr_sn::number::Sn;
 use registry_answer::answer::accept_if;
 use registry_error::error::Answer;
 use registry_error::error::RegistryRejection;

@@ -16,9 +16,9 @@ use lib.ListN.{length, take, drop, length-append, length-take, List·getD-eq-def
 use lib.Seq.{drop-at, getD-take, getD-drop}
 use Rattle.laws.specs.Number.{Bytes}
 use Rattle.laws.proofs.Tests.{and-left, and-right}
-use Rattle.cesr.specs.Numbers.{readSn, snBytes}
+use Rattle.cesr_sn.specs.Numbers.{readSn, snBytes}
 use Rattle.cesr.specs.Primitives.{readMatter, matterBytes}
-use Rattle.cesr.specs.declared.number.Sn.{Sn}
+use Rattle.cesr_sn.specs.declared.number.Sn.{Sn}
 use Rattle.cesr.specs.declared.primitive.Matter.{Matter}
 use Rattle.cesr.specs.declared.primitive.Said.{Said}
 use Rattle.cesr.proofs.Matters.{length-matter}

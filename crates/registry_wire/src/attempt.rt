@@ -1,6 +1,6 @@
 // An attempt: an event, its source, the message's anchoring event, signatures and evidence.
-use cesr::number::Sn;
 use cesr::primitive::Said;
+use cesr_sn::number::Sn;
 use codec::section::count_up_to;
 use codec_cursor::cursor::Cursor;
 use codec_seal::seal::pass_seals;

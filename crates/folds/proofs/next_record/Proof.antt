@@ -17,50 +17,11 @@ returns c = search needs
 returns-2 : tie.Need-returns-2
 returns-2 c = search needs
 
-array-read-size : tie.Need-array-read-size
-array-read-size c = search needs
+slice-aggregate-body-size : tie.Need-slice-aggregate-body-size
+slice-aggregate-body-size c = search needs
 
-array-read-size-2 : tie.Need-array-read-size-2
-array-read-size-2 c = search needs
-
-size-requires : tie.Need-size-requires
-size-requires c κs = search needs
-
-array-read-size-3 : tie.Need-array-read-size-3
-array-read-size-3 c = search needs
-
-array-read-size-4 : tie.Need-array-read-size-4
-array-read-size-4 c = search needs
-
-size-requires-2 : tie.Need-size-requires-2
-size-requires-2 c κs = search needs
-
-add-states : tie.Need-add-states
-add-states c = search needs
-
-array-read-size-5 : tie.Need-array-read-size-5
-array-read-size-5 c = search needs
-
-array-read-size-6 : tie.Need-array-read-size-6
-array-read-size-6 c = search needs
-
-size-requires-3 : tie.Need-size-requires-3
-size-requires-3 c κs = search needs
-
-add-length : tie.Need-add-length
-add-length c = search needs
-
-array-read-size-7 : tie.Need-array-read-size-7
-array-read-size-7 c = search needs
-
-array-read-size-8 : tie.Need-array-read-size-8
-array-read-size-8 c = search needs
-
-size-requires-4 : tie.Need-size-requires-4
-size-requires-4 c κs = search needs
-
-add-length-2 : tie.Need-add-length-2
-add-length-2 c = search needs
+body-size-requires : tie.Need-body-size-requires
+body-size-requires c κs = search needs
 
 returns-3 : tie.Need-returns-3
 returns-3 c = search needs
@@ -86,8 +47,8 @@ slice-aggregate-judge-record-2 c = sym (length-take-le _ _ (omega arith))
 judge-record-requires : tie.Need-judge-record-requires
 judge-record-requires c κs = search needs
 
-array-read-t13 : tie.Need-array-read-t13
-array-read-t13 c = search needs
+array-read-t20 : tie.Need-array-read-t20
+array-read-t20 c = search needs
 
 array-read-t23 : tie.Need-array-read-t23
 array-read-t23 c = search needs
@@ -106,21 +67,8 @@ next-record-spec =
     read-full-requires
     returns
     returns-2
-    array-read-size
-    array-read-size-2
-    size-requires
-    array-read-size-3
-    array-read-size-4
-    size-requires-2
-    add-states
-    array-read-size-5
-    array-read-size-6
-    size-requires-3
-    add-length
-    array-read-size-7
-    array-read-size-8
-    size-requires-4
-    add-length-2
+    slice-aggregate-body-size
+    body-size-requires
     returns-3
     read-body-requires
     same-length
@@ -129,7 +77,7 @@ next-record-spec =
     slice-reshare-prefix-judge-record
     slice-aggregate-judge-record-2
     judge-record-requires
-    array-read-t13
+    array-read-t20
     array-read-t23
     same-length-2
     returns-5)

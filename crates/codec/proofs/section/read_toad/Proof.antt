@@ -1,5 +1,5 @@
 use borrow.Author.Needs.{needs}
-use Rattle.cesr.specs.Numbers.{value}
+use Rattle.cesr_sn.specs.Numbers.{value}
 use Rattle.codec.specs.Events.{readToad}
 use Rattle.codec.proofs.section.read_toad.Statement.{statement}
 use Rattle.codec.proofs.section.read_toad.Tie as tie

@@ -37,9 +37,9 @@ use denote.Triple.Spec.{Meets, tripleOf}
 use denote.Triple.Table.{entered, cited}
 use denote.Triple.Walked.{says, onExit, walkOf, Walks, ends-at, walked, walk-meets}
 use Rattle.registry_state.specs.declared.state.RegistryState.{RegistryState}
-use Rattle.registry_state.specs.declared.state.CredentialState.{CredentialState}
+use Rattle.registry_state_credential.specs.declared.state.CredentialState.{CredentialState}
 use Rattle.registry_state.proofs.state.RegistryState as G
-use Rattle.registry_state.proofs.state.CredentialState as T
+use Rattle.registry_state_credential.proofs.state.CredentialState as T
 use Rattle.registry_answer.specs.Answers.{accepts}
 use Rattle.registry_error.specs.Errors.{answerNumber}
 use Rattle.registry_error.specs.declared.error.Answer.{Answer}

@@ -42,7 +42,7 @@ use denote.Exit.{yes}
 use Rattle.cesr.proofs.primitive.Said as S
 use Rattle.cesr.proofs.primitive.Said.Laws as S′
 use Rattle.registry_state.specs.declared.state.RegistryState.{RegistryState}
-use Rattle.registry_state.specs.declared.state.CredentialState.{CredentialState}
+use Rattle.registry_state_credential.specs.declared.state.CredentialState.{CredentialState}
 use Rattle.cesr.specs.declared.primitive.Said.{Said}
 use Rattle.ledger_step.specs.Ledgers.{LookedUp, lentLedger, lookUp}
 use Rattle.ledger_standing.specs.Lookups.{viewLookedUp}

@@ -36,9 +36,9 @@ use denote.Triple.Spec.{Meets, tripleOf}
 use denote.Triple.Table.{entered, cited}
 use denote.Triple.Walked.{says, onExit, walkOf, Walks, ends-at, walked, walk-meets}
 use Rattle.registry_state.specs.declared.state.RegistryState.{RegistryState}
-use Rattle.registry_state.specs.declared.state.CredentialState.{CredentialState}
+use Rattle.registry_state_credential.specs.declared.state.CredentialState.{CredentialState}
 use Rattle.registry_state.proofs.state.RegistryState as G
-use Rattle.registry_state.proofs.state.CredentialState as T
+use Rattle.registry_state_credential.proofs.state.CredentialState as T
 use Rattle.ledger_image.specs.Images.{ImageAnswer, imageOf, imageInto, imageNumber}
 use Rattle.ledger_read.specs.ImageReads.{countsOf, countsAfter, rowsAfter, RegistriesAfter}
 use Rattle.ledger_read.specs.declared.read.ImageRead.{ImageRead}

@@ -40,7 +40,7 @@ use denote.Triple.Table.{entered, cited}
 use denote.Triple.Walked.{says, onExit, Stays, stay-dropped, gave-ref, gave-slice, walkOf, goes-dropped, goes-gave-ref, goes-gave-slice, Walks, ends-at, walked, walk-meets}
 use denote.Exit.{yes}
 use Rattle.registry_state.specs.declared.state.RegistryState.{RegistryState}
-use Rattle.registry_state.specs.declared.state.CredentialState.{CredentialState}
+use Rattle.registry_state_credential.specs.declared.state.CredentialState.{CredentialState}
 use Rattle.ledger_step.specs.Ledgers.{lentLedger}
 use Rattle.ledger_image.specs.Images.{Written, writtenOf}
 use Rattle.ledger_written.specs.Writes.{viewWritten}

@@ -1,6 +1,6 @@
 use mathlib.Core.Path.{sym, _∙_}
 use denote.Ref.{now}
-use Rattle.registry_state.proofs.StateLoops.{length-credential}
+use Rattle.registry_state_credential.proofs.CodesCredential.{length-credential}
 use Rattle.registry_issue.specs.IssueFolds.{viewOutcome}
 use Rattle.host_next.specs.ByteFolds.{credentialFolded}
 use Rattle.host_next.proofs.Calls.{stored, kept}

@@ -1,5 +1,5 @@
 use native.Mathlib.Omega.{arith}
-use Rattle.cesr.specs.Numbers.{value}
+use Rattle.cesr_sn.specs.Numbers.{value}
 use Rattle.host_values.proofs.values.small.Statement.{statement}
 use Rattle.host_values.proofs.values.small.Tie as tie
 

@@ -46,7 +46,7 @@ use denote.Triple.Walked.{says, onExit, Stays, stay-none, stay-slice, stay-none-
 use denote.Exit.{yes}
 use Rattle.cesr.specs.declared.primitive.Said.{Said}
 use Rattle.registry_state.specs.declared.state.RegistryState.{RegistryState}
-use Rattle.registry_state.specs.declared.state.CredentialState.{CredentialState}
+use Rattle.registry_state_credential.specs.declared.state.CredentialState.{CredentialState}
 use Rattle.ledger_step.specs.Ledgers.{Ledger, heldOf, lentLedger, sound}
 use Rattle.ledger_step.specs.Steps.{requestOf, effect, stepOf}
 use Rattle.ledger_step.proofs.Share as share
@@ -64,8 +64,8 @@ use Rattle.cesr.proofs.primitive.Said as S
 use Rattle.cesr.proofs.primitive.Said.Laws as S′
 use Rattle.registry_state.proofs.state.RegistryState as G
 use Rattle.registry_state.proofs.state.RegistryState.Laws as G′
-use Rattle.registry_state.proofs.state.CredentialState as T
-use Rattle.registry_state.proofs.state.CredentialState.Laws as T′
+use Rattle.registry_state_credential.proofs.state.CredentialState as T
+use Rattle.registry_state_credential.proofs.state.CredentialState.Laws as T′
 use Rattle.ledger_asked.proofs.call.Named as N
 use Rattle.ledger_asked.proofs.call.Named.Laws as N′
 use Rattle.ledger_stores.proofs.call.Next as X

@@ -1,6 +1,6 @@
 use borrow.Author.Needs.{needs}
-use Rattle.cesr.specs.Numbers.{value}
-use Rattle.registry_state.specs.States.{viewCredentialRead}
+use Rattle.cesr_sn.specs.Numbers.{value}
+use Rattle.registry_state_credential.specs.CredentialStates.{viewCredentialRead}
 use Rattle.ledger_image_rows_check.proofs.MarkLaws.{row-tested-near}
 use Rattle.ledger_image_rows_check.proofs.rows.row_passes.Statement.{statement}
 use Rattle.ledger_image_rows_check.proofs.rows.row_passes.Tie as tie

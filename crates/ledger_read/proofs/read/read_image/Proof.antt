@@ -44,7 +44,7 @@ use denote.Triple.Table.{entered, cited}
 use denote.Triple.Walked.{says, onExit, Stays, stay-none, stay-slice, stay-none-slice, walkOf, goes-none, goes-slice, goes-none-slice, Walks, ends-at, walked, walk-meets}
 use denote.Exit.{yes}
 use Rattle.registry_state.specs.declared.state.RegistryState.{RegistryState}
-use Rattle.registry_state.specs.declared.state.CredentialState.{CredentialState}
+use Rattle.registry_state_credential.specs.declared.state.CredentialState.{CredentialState}
 use Rattle.ledger_image.specs.Images.{imageInto, imageNumber}
 use Rattle.ledger_sections.specs.RowImages.{rowsFrom}
 use Rattle.ledger_step.proofs.Relend.{Kept, relends, backs}
@@ -55,7 +55,7 @@ use Rattle.ledger_read.specs.declared.read.ImageRead.{ImageRead}
 use Rattle.ledger_read.specs.ImageReads.{planOf, answerBy, countsOf, countsAfter, rowsAfter, RegistriesAfter}
 use Rattle.ledger_read.proofs.ImageStored.{Done, done}
 use Rattle.registry_state.proofs.state.RegistryState as G
-use Rattle.registry_state.proofs.state.CredentialState as T
+use Rattle.registry_state_credential.proofs.state.CredentialState as T
 use Rattle.ledger_image_check.proofs.image.Checked as K
 use Rattle.ledger_image_check.proofs.image.Checked.Laws as K′
 use Rattle.ledger_read.proofs.read.ImageRead as A₀

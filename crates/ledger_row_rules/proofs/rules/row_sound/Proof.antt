@@ -2,10 +2,10 @@ use mathlib.Core.Path.{_≡_, refl, ap}
 use mathlib.Core.Bool.{Bool, _&&_}
 use borrow.Author.Needs.{needs}
 use lib.Dec.{ltb, leb·suc-suc}
-use Rattle.cesr.specs.Numbers.{value}
-use Rattle.cesr.specs.declared.number.Sn.{Sn}
-use Rattle.registry_state.specs.States.{wellCredential}
-use Rattle.registry_state.specs.declared.state.CredentialState.{CredentialState}
+use Rattle.cesr_sn.specs.Numbers.{value}
+use Rattle.cesr_sn.specs.declared.number.Sn.{Sn}
+use Rattle.registry_state_credential.specs.CredentialStates.{wellCredential}
+use Rattle.registry_state_credential.specs.declared.state.CredentialState.{CredentialState}
 use Rattle.ledger_step.specs.Ledgers.{zeroOrOne}
 use Rattle.ledger_row_rules.proofs.rules.row_sound.Statement.{statement}
 use Rattle.ledger_row_rules.proofs.rules.row_sound.Tie as tie

@@ -6,7 +6,7 @@ use lib.Dec.{eqb}
 use Rattle.cesr.specs.Primitives.{eqMatter}
 use Rattle.cesr.specs.declared.primitive.Matter.{Matter}
 use Rattle.cesr.specs.declared.primitive.Said.{Said}
-use Rattle.registry_state.specs.declared.state.CredentialState.{CredentialState}
+use Rattle.registry_state_credential.specs.declared.state.CredentialState.{CredentialState}
 use Rattle.ledger_rows.specs.Rows.{hasKey}
 use Rattle.ledger_rows.proofs.rows.has_key.Statement.{statement}
 use Rattle.ledger_rows.proofs.rows.has_key.Tie as tie

@@ -18,9 +18,9 @@ use denote.Struct.Laws as LL
 use denote.Triple.Entry.{Vals, onEntry}
 use denote.Triple.Spec.{Meets, tripleOf}
 use denote.Exit.{yes}
-use Rattle.registry_state.specs.declared.state.CredentialState.{CredentialState}
-use Rattle.registry_state.proofs.state.CredentialState as T
-use Rattle.registry_state.proofs.state.CredentialState.Laws as T′
+use Rattle.registry_state_credential.specs.declared.state.CredentialState.{CredentialState}
+use Rattle.registry_state_credential.proofs.state.CredentialState as T
+use Rattle.registry_state_credential.proofs.state.CredentialState.Laws as T′
 use lib.Dec.{ltb, ltb→lt, nltb→le}
 use lib.ListN.{length, set, length-set}
 use lib.Seq.{set-out}
@@ -43,7 +43,7 @@ use denote.Index.{place-is, elem-out, elem-put, opens-slice, closes-slice}
 use denote.Steps.{owned, nothing}
 use denote.Triple.Table.{entered}
 use denote.Triple.Walked.{says, Stays, stay-none, stay-slice, walkOf, goes-none, goes-slice, Walks, ends-at, walked, walk-meets}
-use Rattle.registry_state.specs.States.{noCredential}
+use Rattle.registry_state_credential.specs.CredentialStates.{noCredential}
 use Rattle.ledger_step.proofs.Turns.{offset-fits}
 use Rattle.ledger_rows.proofs.rows.store_row.Key.{name as #me}
 use Rattle.ledger_rows.proofs.rows.store_row as me

@@ -47,7 +47,7 @@ use denote.Triple.Walked.{says, Stays, stay-none, stay-slice, stay-none-slice, w
 use denote.Exit.{yes}
 use borrow.Rule.Slice.PartMut.{putMid, startAt}
 use Rattle.registry_state.specs.declared.state.RegistryState.{RegistryState}
-use Rattle.registry_state.specs.declared.state.CredentialState.{CredentialState}
+use Rattle.registry_state_credential.specs.declared.state.CredentialState.{CredentialState}
 use Rattle.ledger_step.specs.Ledgers.{lentLedger, sound}
 use Rattle.ledger_image.specs.Images.{writtenOf}
 use Rattle.ledger_step.proofs.Relend.{Kept, relends, backs}
@@ -58,7 +58,7 @@ use Rattle.ledger_written.specs.declared.answer.Written.{Written as Answer}
 use Rattle.ledger_write.proofs.PartLent.{KeptPart, part-lends, part-backs, byte-start}
 use Rattle.ledger_written.proofs.ImageWrites.{first, answer, headed, rest, part, last, refused-all, written-all, first-fits, headed-long, part-long, last-long}
 use Rattle.registry_state.proofs.state.RegistryState as G
-use Rattle.registry_state.proofs.state.CredentialState as T
+use Rattle.registry_state_credential.proofs.state.CredentialState as T
 use Rattle.ledger_written.proofs.answer.Written as P
 use Rattle.ledger_written.proofs.answer.Written.Laws as P′
 use Rattle.ledger_check.proofs.check.sound as check

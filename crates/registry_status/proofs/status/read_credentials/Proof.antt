@@ -1,6 +1,6 @@
 use borrow.Author.Tests.{eq-eqb, ne-eqb}
 use borrow.Author.Needs.{needs}
-use Rattle.registry_state.specs.States.{readCredential}
+use Rattle.registry_state_credential.specs.CredentialStates.{readCredential}
 use Rattle.registry_status.specs.Statuses.{readCredentials}
 use Rattle.codec.proofs.Loops.{section-none, section-one}
 use Rattle.registry_status.proofs.status.read_credentials.Statement.{statement}

@@ -1,0 +1,2 @@
+// The checks of lists of backers.
+pub mod member_set;

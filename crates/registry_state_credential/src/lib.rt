@@ -1,0 +1,2 @@
+// The state of a credential: read, written, held to its limits.
+pub mod state;
