@@ -2,7 +2,7 @@
 use codec_cursor::cursor::Cursor;
 use ledger_image::image::read_count;
 use ledger_image_ids::ids::Ids;
-use ledger_registries_check::check::registry_sound;
+use ledger_registry_rules::rules::registry_sound;
 use registry_state::state::RegistryState;
 ghost use mathlib.Core.Path.{_≡_};
 ghost use mathlib.Core.List.{map};

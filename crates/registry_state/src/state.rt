@@ -146,7 +146,8 @@ fn is_config(b: u8) -> bool
     (1 <= b) & (b <= 6)
 }
 
-fn all_configs(configs: Configs) -> bool
+// Whether every config byte is one.
+pub fn all_configs(configs: Configs) -> bool
     ensures { λ r. ⌜ r ≡ all isConfig (viewConfigs configs) ⌝ }
 {
     let n = configs.size();

@@ -59,18 +59,18 @@ use Rattle.cesr.proofs.primitive.Said as S
 use Rattle.cesr.proofs.primitive.Said.Laws as S′
 use Rattle.registry_state.proofs.state.RegistryState as T
 use Rattle.registry_state.proofs.state.RegistryState.Laws as T′
-use Rattle.ledger_registries_check.proofs.check.right_size as size
-use Rattle.ledger_registries_check.proofs.check.right_size.Symbol as size-def
-use Rattle.ledger_registries_check.proofs.check.right_size.Symbol.{name as #size}
-use Rattle.ledger_registries_check.proofs.check.right_size.Met as size-thm
+use Rattle.ledger_registry_rules.proofs.rules.right_size as size
+use Rattle.ledger_registry_rules.proofs.rules.right_size.Symbol as size-def
+use Rattle.ledger_registry_rules.proofs.rules.right_size.Symbol.{name as #size}
+use Rattle.ledger_registry_rules.proofs.rules.right_size.Met as size-thm
 use Rattle.ledger_registries.proofs.registries.find_registry as find
 use Rattle.ledger_registries.proofs.registries.find_registry.Symbol as find-def
 use Rattle.ledger_registries.proofs.registries.find_registry.Symbol.{name as #find}
 use Rattle.ledger_registries.proofs.registries.find_registry.Met as find-thm
-use Rattle.ledger_registries_check.proofs.check.passes as pass
-use Rattle.ledger_registries_check.proofs.check.passes.Symbol as pass-def
-use Rattle.ledger_registries_check.proofs.check.passes.Symbol.{name as #pass}
-use Rattle.ledger_registries_check.proofs.check.passes.Met as pass-thm
+use Rattle.ledger_registry_rules.proofs.rules.passes as pass
+use Rattle.ledger_registry_rules.proofs.rules.passes.Symbol as pass-def
+use Rattle.ledger_registry_rules.proofs.rules.passes.Symbol.{name as #pass}
+use Rattle.ledger_registry_rules.proofs.rules.passes.Met as pass-thm
 use Rattle.ledger_registries_check.proofs.check.registries_sound.Key.{name as #me}
 use Rattle.ledger_registries_check.proofs.check.registries_sound as me
 use Rattle.ledger_registries_check.proofs.check.registries_sound.Statement as stated
@@ -321,6 +321,6 @@ registries-sound-spec 𝓤 H 𝓜 𝓖 𝓡 =
     entered 𝓤 H (tripleOf 𝓤 H (𝓖 .A) me.signature (me.spec 𝓤 H (𝓖 .A) (𝓜 .mem) (𝓡 .run)))
     (tables 𝓤 H 𝓜 𝓡 code.env .C) (tables 𝓤 H 𝓜 𝓡 code.env .Λ) #me code.function (code.unfolded 𝓤 H 𝓜 𝓡)
     (me-meets 𝓤 H (𝓖 .A) (givenOf 𝓤 H 𝓜 𝓖) (𝓜 .mem) (𝓡 .run) (tablesOf 𝓤 H 𝓜 (tables 𝓤 H 𝓜 𝓡 code.env))
-    (cited 𝓤 H (RightSize 𝓤 H (𝓖 .A) (𝓜 .mem) (𝓡 .run)) 𝓜 𝓡 code.env #size size-def.routine code.calls-ledger-registries-check·check·right-size (size-thm.met 𝓤 H 𝓜 𝓖 𝓡))
+    (cited 𝓤 H (RightSize 𝓤 H (𝓖 .A) (𝓜 .mem) (𝓡 .run)) 𝓜 𝓡 code.env #size size-def.routine code.calls-ledger-registry-rules·rules·right-size (size-thm.met 𝓤 H 𝓜 𝓖 𝓡))
     (cited 𝓤 H (Find 𝓤 H (𝓖 .A) (𝓜 .mem) (𝓡 .run)) 𝓜 𝓡 code.env #find find-def.routine code.calls-ledger-registries·registries·find-registry (find-thm.met 𝓤 H 𝓜 𝓖 𝓡))
-    (cited 𝓤 H (Passes 𝓤 H (𝓖 .A) (𝓜 .mem) (𝓡 .run)) 𝓜 𝓡 code.env #pass pass-def.routine code.calls-ledger-registries-check·check·passes (pass-thm.met 𝓤 H 𝓜 𝓖 𝓡)))
+    (cited 𝓤 H (Passes 𝓤 H (𝓖 .A) (𝓜 .mem) (𝓡 .run)) 𝓜 𝓡 code.env #pass pass-def.routine code.calls-ledger-registry-rules·rules·passes (pass-thm.met 𝓤 H 𝓜 𝓖 𝓡)))

@@ -1,6 +1,6 @@
 use borrow.Author.Needs.{needs}
-use Rattle.ledger_registries_check.proofs.check.passes.Statement.{statement}
-use Rattle.ledger_registries_check.proofs.check.passes.Tie as tie
+use Rattle.ledger_registry_rules.proofs.rules.passes.Statement.{statement}
+use Rattle.ledger_registry_rules.proofs.rules.passes.Tie as tie
 
 registry-sound-requires : tie.Need-registry-sound-requires
 registry-sound-requires c κs = search needs
