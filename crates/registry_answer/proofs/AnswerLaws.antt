@@ -5,7 +5,10 @@
 --     first-refused, first-failed     the first that refuses decides
 --     first-accepted, first-passed    one that accepts gives way to the rest
 --     first-last                      the last decides by itself
-use mathlib.Core.Path.{_≡_, refl, sym}
+-- The same of a check that was answered, by the test whether it accepts.
+--     or-passes, or-refuses           of two checks
+--     first-passes, first-refuses     of a chain
+use mathlib.Core.Path.{_≡_, refl, ap, sym, _∙_}
 use mathlib.Core.List.{List, [], _∷_}
 use mathlib.Core.Bool.{Bool, true, false, false≢true}
 use Rattle.registry_answer.specs.Answers.{accepts, acceptIf, orElse, firstOf}
@@ -48,3 +51,19 @@ pub first-last : (x : Answer) → firstOf (x ∷ []) ≡ x
 unfolding firstOf
 first-last Accepted = refl
 first-last (Rejected r) = refl
+
+pub or-passes : (x y z : Answer) (t : Bool) → x ≡ y → t ≡ accepts x → t ≡ true → orElse y z ≡ z
+or-passes x Accepted z t e f h = refl
+or-passes x (Rejected r) z t e f h = absurd (false≢true (sym (f ∙ ap accepts e) ∙ h))
+
+pub or-refuses : (x y z : Answer) (t : Bool) → x ≡ y → t ≡ accepts x → t ≡ false → orElse y z ≡ x
+or-refuses x Accepted z t e f h = absurd (false≢true (sym h ∙ (f ∙ ap accepts e)))
+or-refuses x (Rejected r) z t e f h = sym e
+
+pub first-passes : (x y : Answer) (l : List Answer) (t : Bool) → x ≡ y → t ≡ accepts x → t ≡ true → firstOf (y ∷ l) ≡ firstOf l
+unfolding firstOf
+first-passes x y l t e f h = or-passes x y (firstOf l) t e f h
+
+pub first-refuses : (x y : Answer) (l : List Answer) (t : Bool) → x ≡ y → t ≡ accepts x → t ≡ false → firstOf (y ∷ l) ≡ x
+unfolding firstOf
+first-refuses x y l t e f h = or-refuses x y (firstOf l) t e f h

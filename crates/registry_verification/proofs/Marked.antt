@@ -1,5 +1,7 @@
 -- Marks that stand for the good signatures of a list.
 --     no-marks, marks-step    none at first; one signature more
+--     marked-set, marked-twice, marked-bad
+--                             what a signature does to the marks, by its tests
 --     walk-turn               a turn of the walk over signatures in bytes
 use Prim.Native.Nat.{ℕ, zero, suc, _+_, _<_, _≤_}
 use mathlib.Core.Path.{_≡_, refl, ap, sym, _∙_}
@@ -18,8 +20,7 @@ use Rattle.laws.proofs.Tests.{and-left, and-right}
 use Rattle.codec_cursor.specs.declared.cursor.Cursor.{Cursor}
 use Rattle.codec_cursor.specs.Readers.{Read, times}
 use Rattle.registry_signatures.specs.SignatureSections.{Signature, readSignature}
-use Rattle.registry_verification.specs.Receipts.{hasGood, receipts, marked}
-use Rattle.registry_verification.specs.declared.verification.Marks.{Marks}
+use Rattle.registry_verification.specs.Receipts.{hasGood, receipts, Marks, marked}
 
 -- a bit as a mark
 abbrev bit : Bool → ℕ
@@ -117,6 +118,20 @@ count-below P (suc n) = go (P n) (count-below P n)
 pub receipts-below : (n : ℕ) (l : List Signature) → receipts n l ≤ n
 unfolding receipts
 receipts-below n l = count-below (λ i. hasGood i l) n
+
+-- what a signature does to the marks, by its tests
+module _ (n : ℕ) (m : Marks) (x : Signature) where
+  pub marked-set : (ltb (x .index) n && eqb (x .verdict) 1) ≡ true → getD (m .seen) (x .index) 0 ≡ 0 → record { seen = set (m .seen) (x .index) 1; valid = m .valid + 1 } ≡ marked n m x
+  unfolding marked
+  marked-set e f = rw (e, eq-eqb (getD (m .seen) (x .index) 0) 0 f)
+
+  pub marked-twice : (ltb (x .index) n && eqb (x .verdict) 1) ≡ true → (getD (m .seen) (x .index) 0 ≡ 0 → ⊥) → m ≡ marked n m x
+  unfolding marked
+  marked-twice e f = rw (e, ne-eqb (getD (m .seen) (x .index) 0) 0 f)
+
+  pub marked-bad : (ltb (x .index) n && eqb (x .verdict) 1) ≡ false → m ≡ marked n m x
+  unfolding marked
+  marked-bad e = rw e
 
 length-marked : (n : ℕ) (m : Marks) (x : Signature) → length (marked n m x .seen) ≡ length (m .seen)
 unfolding marked

@@ -4,7 +4,7 @@ use Rattle.registry_rotation.proofs.deltas.check_members.Statement.{sta
 use Rattle.registry_rotation.proofs.deltas.check_members.Tie as tie
 
 check-listed-requires : tie.Need-check-listed-requires
-check-listed-requires c κs = (refl, refl, λ e. refl)
+check-listed-requires c κs = (refl, refl, λ e. (refl, refl))
 
 returns : tie.Need-returns
 unfolding checkMembers
