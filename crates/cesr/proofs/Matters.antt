@@ -5,7 +5,7 @@
 --     eq-matter, matter-eq     equality as a test, and as a path
 --     eq-said, said-eq, eq-prefix, prefix-eq   the same in either role
 use Prim.Native.Nat.{ℕ, _+_, _%_, _<_}
-use mathlib.Core.Path.{_≡_, refl, ap}
+use mathlib.Core.Path.{_≡_, refl, sym, ap}
 use mathlib.Core.List.{List}
 use mathlib.Core.Bool.{Bool, true, false, cond, _&&_}
 use native.Mathlib.Nat.{add-assoc, mod-eq-of-lt}
@@ -61,6 +61,11 @@ matter-copied s at h p = rw (h, mod-eq-of-lt p)
 pub same-whole : (m : Matter) (s : List ℕ) (at : ℕ) → leb (at + 33) (length s) ≡ true → (eqb (lib.ListN.getD s at 0) (m .code) && eqb (number s (at + 1) 8) (m .w0) && eqb (number s (at + 9) 8) (m .w1) && eqb (number s (at + 17) 8) (m .w2) && eqb (number s (at + 25) 8) (m .w3)) ≡ eqMatter (readMatter s at) m
 unfolding eqMatter readMatter room
 same-whole m s at h = rw h
+
+pub apart-whole : (m : Matter) (s : List ℕ) (at : ℕ) → leb (at + 33) (length s) ≡ true → (number s (at + 1) 8 ≡ m .w0 → ⊥) → false ≡ eqMatter (readMatter s at) m
+unfolding readMatter room
+apart-whole m s at h k =
+    rw h (sym (matter-apart (record { code = lib.ListN.getD s at 0; w0 = number s (at + 1) 8; w1 = number s (at + 9) 8; w2 = number s (at + 17) 8; w3 = number s (at + 25) 8 }) m k))
 
 -- the test is true of equal primitives alone
 pub matter-eq : (a b : Matter) → eqMatter a b ≡ true → a ≡ b

@@ -93,15 +93,19 @@ impl Matter {
             & (self.w3 == other.w3)
     }
 
-    // Whether the primitive at a place is this one. It is compared where it stands, since a primitive that is read is first stored and then loaded again.
+    // Whether the primitive at a place is this one, by its first word first. It is compared where it stands, since a primitive that is read is first stored and then loaded again.
     pub fn same_at(self, s: &[u8], at: usize) -> bool
         ensures { λ r. ⌜ r ≡ eqMatter (readMatter (now (s .entry)) at) self ⌝ }
     {
         if !has_room(s.len(), at, 33) {
             return Matter::none().same(self);
         }
+        let first = word(s, at + 1);
+        if first != self.w0 {
+            return false;
+        }
         (s[at] as u64 == self.code)
-            & (word(s, at + 1) == self.w0)
+            & (first == self.w0)
             & (word(s, at + 9) == self.w1)
             & (word(s, at + 17) == self.w2)
             & (word(s, at + 25) == self.w3)

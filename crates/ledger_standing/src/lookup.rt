@@ -1,6 +1,6 @@
 // What a look-up answers, from the row that a search for the key found (docs/RULES.md, "Look-up").
-use cesr_sn::number::Sn;
 use cesr::primitive::Said;
+use cesr_sn::number::Sn;
 use registry_state_credential::state::CredentialState;
 ghost use mathlib.Core.Path.{_≡_};
 ghost use mathlib.Core.Bool.{_&&_};

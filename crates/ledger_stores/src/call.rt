@@ -1,7 +1,7 @@
 // What a call of the ledger hands back: on values, and over what is lent.
 use registry_error::error::Answer;
-use registry_state_credential::state::CredentialState;
 use registry_state::state::RegistryState;
+use registry_state_credential::state::CredentialState;
 ghost use mathlib.Core.Path.{_≡_};
 ghost use Rattle.ledger_stores.specs.Applies.{appliedOf};
 

@@ -1,7 +1,7 @@
 // The issuer's evidence and the anchoring event (docs/RULES.md, "Evidence", "Anchoring events").
-use cesr_sn::number::Sn;
 use cesr::primitive::Matter;
 use cesr::primitive::Said;
+use cesr_sn::number::Sn;
 use codec_cursor::cursor::Cursor;
 use registry_answer::answer::accept_if;
 use registry_answer::answer::accepts;

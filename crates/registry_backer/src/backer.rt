@@ -1,6 +1,6 @@
 // The authority of a bis or brv, and its receipts (docs/RULES.md, "Evidence", "Receipts").
-use cesr_sn::number::Sn;
 use cesr::primitive::Said;
+use cesr_sn::number::Sn;
 use codec_cursor::cursor::Cursor;
 use events_seal::seal::Seal;
 use events_toad::toad::Toad;

@@ -1,6 +1,6 @@
 // The fold of a credential's next event, its revocation (docs/RULES.md, "Orders", "Next states").
-use cesr_sn::number::Sn;
 use cesr::primitive::Said;
+use cesr_sn::number::Sn;
 use events_tel::tel::Kind;
 use registry_answer::answer::accepts;
 use registry_authentication::issuer::authenticate_issuer;
@@ -15,8 +15,8 @@ use registry_management::management::Backing;
 use registry_management::management::Management;
 use registry_management::management::backing_of;
 use registry_management::management::management_of;
-use registry_state_credential::state::CredentialState;
 use registry_state::state::RegistryState;
+use registry_state_credential::state::CredentialState;
 use registry_transition::transition::transition;
 use registry_wire::attempt::Attempt;
 ghost use mathlib.Core.Path.{_≡_};

@@ -1,7 +1,7 @@
 // The inception of a registry (docs/RULES.md, "Orders", "Next states").
-use cesr_sn::number::Sn;
 use cesr::primitive::Matter;
 use cesr::primitive::Said;
+use cesr_sn::number::Sn;
 use codec::section::at_most_16;
 use codec::section::members_in;
 use codec_cursor::cursor::Cursor;

@@ -1,6 +1,6 @@
 // The fold of a credential's first event, its issue (docs/RULES.md, "Orders", "Next states").
-use cesr_sn::number::Sn;
 use cesr::primitive::Said;
+use cesr_sn::number::Sn;
 use events_tel::tel::Kind;
 use events_tel::tel::TelEvent;
 use registry_answer::answer::accepts;
@@ -13,8 +13,8 @@ use registry_management::management::Backing;
 use registry_management::management::Management;
 use registry_management::management::backing_of;
 use registry_management::management::management_of;
-use registry_state_credential::state::CredentialState;
 use registry_state::state::RegistryState;
+use registry_state_credential::state::CredentialState;
 use registry_wire::attempt::Attempt;
 ghost use mathlib.Core.Path.{_≡_};
 ghost use mathlib.Core.List.{List};

@@ -1,14 +1,14 @@
 // A registry's state in two parts: all but its backers, and what its backers come to where they are an authority's. A list is copied at every call, and no rule on a credential's events looks into one but that on repeats.
-use cesr_sn::number::Sn;
 use cesr::primitive::Matter;
 use cesr::primitive::Said;
+use cesr_sn::number::Sn;
 use codec::section::at_most_16;
 use codec::section::pass_prefixes;
 use codec::section::read_configs;
 use codec_cursor::cursor::Cursor;
-use events_member_set::member_set::MemberSet;
 use events::member_set::Members;
 use events::member_set::Membership;
+use events_member_set::member_set::MemberSet;
 use events_tel::config::Configs;
 use events_tel::tel::Listed;
 use events_toad::toad::Toad;

@@ -5,7 +5,7 @@ use Prim.Native.Nat.{_+_, _≤_}
 use lib.ListN.{length}
 use borrow.Author.Needs.{needs}
 use borrow.Author.Tests.{leb-true, not-true, not-false}
-use Rattle.cesr.proofs.Matters.{matter-none, same-whole}
+use Rattle.cesr.proofs.Matters.{matter-none, apart-whole, same-whole}
 use Rattle.cesr.proofs.primitive.Matter.same_at.Statement.{statement}
 use Rattle.cesr.proofs.primitive.Matter.same_at.Tie as tie
 
@@ -30,45 +30,52 @@ returns c =
     let a = b2 .before .before .before .args in
     rw (sym (matter-none (now (a .s)) (a .at) (sym (b2 .before .has-room .ensures) ∙ not-true _ (b2 .if1 .taken))), sym (c .before .none .ensures)) (c .same .ensures)
 
-shared-slice-read-result : tie.Need-shared-slice-read-result
-shared-slice-read-result c = omega (arith, fits (c .before))
-
-cast-result : tie.Need-cast-result
-cast-result c = omega (arith, c .shared-slice-known2 .given (c .before .before .before .before .args .at))
-
 add-word : tie.Need-add-word
-add-word c = omega (arith, fits (c .before .before))
+add-word c = omega (arith, fits c)
 
 word-requires : tie.Need-word-requires
-word-requires c κs = omega (arith, fits (c .before .before))
-
-add-word-2 : tie.Need-add-word-2
-add-word-2 c = omega (arith, fits (c .before .before .before .before))
-
-word-requires-2 : tie.Need-word-requires-2
-word-requires-2 c κs = omega (arith, fits (c .before .before .before .before))
-
-add-word-3 : tie.Need-add-word-3
-add-word-3 c = omega (arith, fits (c .before .before .before .before .before .before))
-
-word-requires-3 : tie.Need-word-requires-3
-word-requires-3 c κs = omega (arith, fits (c .before .before .before .before .before .before))
-
-add-word-4 : tie.Need-add-word-4
-add-word-4 c = omega (arith, fits (c .before .before .before .before .before .before .before .before))
-
-word-requires-4 : tie.Need-word-requires-4
-word-requires-4 c κs = omega (arith, fits (c .before .before .before .before .before .before .before .before))
+word-requires c κs = omega (arith, fits c)
 
 returns-2 : tie.Need-returns-2
 returns-2 c =
+    let b2 = c .before .before in
+    let b3 = b2 .before in
+    let a = b3 .before .before .before .args in
+    apart-whole (a .self) (now (a .s)) (a .at) (sym (b3 .before .has-room .ensures) ∙ not-false _ (b3 .if1 .left)) (λ e. c .if2 .taken (b2 .word .ensures ∙ e))
+
+shared-slice-read-result : tie.Need-shared-slice-read-result
+shared-slice-read-result c = omega (arith, fits (c .before .before .before .before))
+
+cast-result : tie.Need-cast-result
+cast-result c = omega (arith, c .shared-slice-known2 .given (c .before .before .before .before .before .before .before .args .at))
+
+add-word-2 : tie.Need-add-word-2
+add-word-2 c = omega (arith, fits (c .before .before .before .before .before .before))
+
+word-requires-2 : tie.Need-word-requires-2
+word-requires-2 c κs = omega (arith, fits (c .before .before .before .before .before .before))
+
+add-word-3 : tie.Need-add-word-3
+add-word-3 c = omega (arith, fits (c .before .before .before .before .before .before .before .before))
+
+word-requires-3 : tie.Need-word-requires-3
+word-requires-3 c κs = omega (arith, fits (c .before .before .before .before .before .before .before .before))
+
+add-word-4 : tie.Need-add-word-4
+add-word-4 c = omega (arith, fits (c .before .before .before .before .before .before .before .before .before .before))
+
+word-requires-4 : tie.Need-word-requires-4
+word-requires-4 c κs = omega (arith, fits (c .before .before .before .before .before .before .before .before .before .before))
+
+returns-3 : tie.Need-returns-3
+returns-3 c =
     let b1 = c .before in
     let b3 = b1 .before .before in
     let b5 = b3 .before .before in
-    let b7 = b5 .before .before in
-    let b10 = b7 .before .before .before in
-    let a = b10 .before .before .before .args in
-    rw (b1 .word4 .ensures, b3 .word3 .ensures, b5 .word2 .ensures, b7 .word .ensures) (same-whole (a .self) (now (a .s)) (a .at) (sym (b10 .before .has-room .ensures) ∙ not-false _ (b10 .if1 .left)))
+    let b11 = b5 .before .before .before .before .before .before in
+    let b12 = b11 .before in
+    let a = b12 .before .before .before .args in
+    rw (b1 .word4 .ensures, b3 .word3 .ensures, b5 .word2 .ensures, b11 .word .ensures) (same-whole (a .self) (now (a .s)) (a .at) (sym (b12 .before .has-room .ensures) ∙ not-false _ (b12 .if1 .left)))
 
 pub same-at-spec : {M : Type 1} → statement M
 same-at-spec =
@@ -78,14 +85,15 @@ same-at-spec =
     none-requires
     same-requires
     returns
-    shared-slice-read-result
-    cast-result
     add-word
     word-requires
+    returns-2
+    shared-slice-read-result
+    cast-result
     add-word-2
     word-requires-2
     add-word-3
     word-requires-3
     add-word-4
     word-requires-4
-    returns-2)
+    returns-3)
