@@ -1,10 +1,13 @@
 // An iss or bis, and a rev or brv, under the registry whose state is handed in. Its backers stay in its bytes. The next state's bytes go to the start of `next`.
+use cesr_sn::number::Sn;
 use codec_cursor::cursor::Cursor;
 use host_next::credential_next::leave_credential;
 use host_parts::part::is_whole;
 use host_parts::part::malformed;
-use registry_credential_state::credential_state::ingest_managed;
-use registry_issue::credential_state::incept_managed;
+use host_report::report::report_answer;
+use registry_answer::answer::accepts;
+use registry_credential_state::credential_state::ingest_read;
+use registry_issue::credential_state::incept_read;
 use registry_management::management::backing_in;
 use registry_management::management::read_management;
 use registry_state_credential::state::CredentialState;
@@ -26,8 +29,22 @@ pub fn credential_incept(
         return malformed(report);
     }
     let backers = backing_in(registry, g.backers);
-    let o = incept_managed(true, g.value, backers, attempt);
-    leave_credential(o, next, report)
+    let o = incept_read(true, g.value, backers, attempt);
+    let answer = o.answer;
+    if !accepts(answer) {
+        return report_answer(answer, report);
+    }
+    let first = Sn { hi: 0, lo: 0 };
+    leave_credential(
+        attempt,
+        o.registry,
+        o.credential,
+        first,
+        attempt,
+        o.said,
+        next,
+        report,
+    )
 }
 
 // A rev or brv.
@@ -46,6 +63,21 @@ pub fn credential_ingest(
         return malformed(report);
     }
     let backers = backing_in(registry, g.backers);
-    let o = ingest_managed(true, g.value, backers, w.value, attempt);
-    leave_credential(o, next, report)
+    let o = ingest_read(true, g.value, backers, w.value, attempt);
+    let answer = o.answer;
+    if !accepts(answer) {
+        return report_answer(answer, report);
+    }
+    let last = Sn { hi: 0, lo: 1 };
+    let behind = Cursor::start().pass_said(credential);
+    leave_credential(
+        credential,
+        0,
+        behind.at,
+        last,
+        attempt,
+        o.said,
+        next,
+        report,
+    )
 }

@@ -6,7 +6,10 @@ use mathlib.Core.Option.{Option, none, some}
 use lib.Dec.{eqb, leb}
 use lib.ListN.{length}
 use lib.Seq.{sets}
+use Rattle.cesr.specs.Primitives.{readMatter}
+use Rattle.cesr_sn.specs.declared.number.Sn.{Sn}
 use Rattle.codec_cursor.specs.Readers.{Read, starting}
+use Rattle.registry_bytes.specs.StateBytes.{headBytes}
 use Rattle.registry_copy.specs.NextStates.{nextBytes}
 use Rattle.registry_copy.specs.declared.next.NextState.{NextState}
 use Rattle.registry_state.specs.States.{Registry, registryBytes, readRegistry}
@@ -41,6 +44,11 @@ credentialFolded o = record { answer = o .answer; bytes = credentialBytes (o .st
 -- a fold that accepts, and the bytes of a next state that is made from bytes
 abbrev pub nextFolded : List ℕ → List ℕ → NextState → Folded
 nextFolded held s p = record { answer = Accepted; bytes = nextBytes held s p }
+
+-- the same of a credential state: registry and credential stand in one list, the digest of the last event in another
+abbrev pub credentialCopied : List ℕ → ℕ → ℕ → Sn → List ℕ → ℕ → Folded
+credentialCopied held registry credential sn s head =
+    record { answer = Accepted; bytes = headBytes (readMatter held registry) (readMatter held credential) sn (readMatter s head) }
 
 -- 1 before everything: bytes that are handed in as a state and are none
 abbrev pub noState : Folded

@@ -1,20 +1,25 @@
-// The same of a credential state, which has 115 bytes.
-use host_parts::part::fitted;
+// The same of a credential state, which has 115 bytes. It is copied from where it stands: registry and credential from one slice, the digest of its last event from another.
+use cesr_sn::number::Sn;
 use host_report::report::report_sized;
-use registry_answer::answer::accepts;
-use registry_issue::credential_state::CredentialOutcome;
+use registry_answer::answer::accept_if;
+use registry_bytes::writer::copy_credential;
+use registry_error::error::RegistryRejection;
 ghost use mathlib.Core.Path.{_≡_};
-ghost use Rattle.registry_issue.specs.IssueFolds.{viewOutcome};
-ghost use Rattle.host_next.specs.ByteFolds.{credentialFolded, called, callOf};
+ghost use Rattle.host_next.specs.ByteFolds.{credentialCopied, called, callOf};
 
-pub fn leave_credential(o: CredentialOutcome, next: &mut [u8], report: &mut [u8; 36]) -> u8
-    ensures { λ r. ⌜ called r (now (report .exit)) (now (next .exit)) ≡ callOf (credentialFolded (viewOutcome o)) (now (next .entry)) ⌝ }
+pub fn leave_credential(
+    held: &[u8],
+    registry: usize,
+    credential: usize,
+    sn: Sn,
+    s: &[u8],
+    head: usize,
+    next: &mut [u8],
+    report: &mut [u8; 36],
+) -> u8
+    ensures { λ r. ⌜ called r (now (report .exit)) (now (next .exit)) ≡ callOf (credentialCopied (now (held .entry)) registry credential sn (now (s .entry)) head) (now (next .entry)) ⌝ }
 {
-    let folded = o.answer;
-    let answer = fitted(folded, 115, next.len());
-    if accepts(answer) {
-        o.state.write(next, 0);
-        return report_sized(answer, 115, report);
-    }
+    let ok = copy_credential(held, registry, credential, sn, s, head, next);
+    let answer = accept_if(ok, RegistryRejection::ShortBuffer);
     report_sized(answer, 115, report)
 }

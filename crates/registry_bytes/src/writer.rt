@@ -82,7 +82,26 @@ pub fn copy_front(
     true
 }
 
-// The head of a registry state, copied from where it stands.
+// A credential state in the same way: its registry and credential stand in one slice, the digest of its last event in another. Stores all 115 bytes or none, and answers which.
+pub fn copy_credential(
+    held: &[u8],
+    registry: usize,
+    credential: usize,
+    sn: Sn,
+    s: &[u8],
+    head: usize,
+    out: &mut [u8],
+) -> bool
+    ensures { λ r. ⌜ (r ≡ room (now (out .entry)) 0 115) × (now (out .exit) ≡ put (now (out .entry)) 0 (headBytes (readMatter (now (held .entry)) registry) (readMatter (now (held .entry)) credential) sn (readMatter (now (s .entry)) head))) ⌝ }
+{
+    if !has_room(out.len(), 0, 115) {
+        return false;
+    }
+    copy_head(held, registry, credential, sn, s, head, out);
+    true
+}
+
+// The head of a state, copied from where it stands.
 fn copy_head(held: &[u8], id: usize, issuer: usize, sn: Sn, s: &[u8], latest: usize, out: &mut [u8])
     requires { ⌜ 115 ≤ length (now out) ⌝ }
     ensures { λ r. ⌜ now (out .exit) ≡ sets (now (out .entry)) 0 (headBytes (readMatter (now (held .entry)) id) (readMatter (now (held .entry)) issuer) sn (readMatter (now (s .entry)) latest)) ⌝ }

@@ -1,5 +1,5 @@
 -- The fold of a credential's revocation over decoded attempts.
---     ingest-kept        the outcome of an answer and the state that stands beside it
+--     ingest-at        the outcome of an answer and the state that stands beside it
 --     ingest-decoded     the outcome of bytes that were decoded
 --     ingest-malformed   the refusal 1
 use Prim.Native.Nat.{ℕ}
@@ -16,6 +16,7 @@ use Rattle.events_tel.specs.declared.tel.TelEvent.{TelEvent}
 use Rattle.registry_state.specs.States.{Registry}
 use Rattle.registry_state_credential.specs.declared.state.CredentialState.{CredentialState}
 use Rattle.registry_wire.specs.Attempts.{Message, viewAttempt, viewDecoded, decodeOf}
+use Rattle.registry_wire.specs.declared.attempt.Attempt.{Attempt}
 use Rattle.registry_wire.specs.declared.attempt.DecodedAttempt.{DecodedAttempt}
 use Rattle.registry_authentication.proofs.AnchorUse.{judged-decoded, judged-malformed}
 use Rattle.registry_answer.specs.Answers.{accepts, acceptIf, firstOf}
@@ -26,7 +27,8 @@ use Rattle.registry_backer.specs.Backers.{isBackerless, namesRegistry, authenti
 use Rattle.registry_error.specs.declared.error.Answer.{Answer}
 use Rattle.registry_error.specs.declared.error.Answer.the-variants.{Rejected}
 use Rattle.registry_error.specs.declared.error.RegistryRejection.the-variants.{Malformed, InconsistentRegistry, SimpleEventOnBackerRegistry, BackedEventOnBackerlessRegistry}
-use Rattle.registry_credential_state.specs.CredentialFolds.{revAnswer, brvAnswer, ingestEvent, ingestAnswer, saidOf, revoked, ingestMessage, ingestDecoded, ingestIf}
+use Rattle.registry_credential_state.specs.CredentialFolds.{revAnswer, brvAnswer, ingestEvent, ingestAnswer, saidOf, revoked, revocationAt, ingestMessage, ingestDecoded, ingestIf}
+use Rattle.registry_credential_state.specs.declared.credential_state.Revocation.{Revocation}
 
 -- every kind has its digest in the same field
 pub event-said : (s : List ℕ) (k : Kind) (e : TelEvent) → saidOf (eventAs s k e) ≡ saidAt s (e .said)
@@ -105,9 +107,10 @@ pub held-here : (g : Registry) (w : CredentialState) (m : Message) → eqSaid (w
 unfolding ingestAnswer acceptIf
 held-here g w m h = rw h
 
-pub ingest-kept : (g : Registry) (w : CredentialState) (m : Message) (x : Answer) (v : CredentialState) → x ≡ ingestAnswer g w m → v ≡ cond (accepts x) (revoked w (m .event)) w → record { answer = x; state = v } ≡ ingestMessage g w m
+-- the outcome of an answer and of the place that stands beside it
+pub ingest-at : (g : Registry) (w : CredentialState) (s : List ℕ) (a : Attempt) (r : Revocation) → r .answer ≡ ingestAnswer g w (viewAttempt s a) → r .said ≡ a .event .said → revocationAt w s r ≡ ingestMessage g w (viewAttempt s a)
 unfolding ingestMessage
-ingest-kept g w m x v e f = rw (f, e)
+ingest-at g w s a r h p = rw (p, h, event-said s (a .event .kind) (a .event))
 
 pub ingest-decoded : (well : Bool) (g : Registry) (w : CredentialState) (s : List ℕ) (d : DecodedAttempt) → viewDecoded s d ≡ decodeOf s → well ≡ true → d .ok ≡ true → ingestIf well g w s ≡ ingestMessage g w (viewAttempt s (d .attempt))
 ingest-decoded well g w s d e h ok = judged-decoded (ingestDecoded g w) _ refl s d e well h ok

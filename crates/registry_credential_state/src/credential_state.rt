@@ -10,7 +10,6 @@ use registry_backer::backer::names_registry;
 use registry_error::error::Answer;
 use registry_error::error::RegistryRejection;
 use registry_issue::credential_state::CredentialOutcome;
-use registry_issue::credential_state::refused;
 use registry_management::management::Backing;
 use registry_management::management::Management;
 use registry_management::management::backing_of;
@@ -28,7 +27,13 @@ ghost use Rattle.registry_management.specs.Managements.{viewManagement, Backs};
 ghost use Rattle.registry_wire.specs.Attempts.{viewAttempt};
 ghost use Rattle.registry_authentication.specs.Issuers.{Anchored};
 ghost use Rattle.registry_issue.specs.IssueFolds.{viewOutcome};
-ghost use Rattle.registry_credential_state.specs.CredentialFolds.{revAnswer, brvAnswer, ingestEvent, ingestMessage, ingestIf, ingestOf};
+ghost use Rattle.registry_credential_state.specs.CredentialFolds.{revAnswer, brvAnswer, ingestEvent, ingestAnswer, revocationAt, ingestIf, ingestOf};
+
+// An answer to a revocation, and where the digest of its event stands. The place means something where the answer accepts.
+pub struct Revocation {
+    pub answer: Answer,
+    pub said: usize,
+}
 
 // A rev's checks behind its kind. Each that refuses is returned, since an answer is copied wherever it is joined to another.
 fn rev_answer(g: Management, w: CredentialState, a: Attempt, s: &[u8]) -> Answer
@@ -114,24 +119,56 @@ fn ingest_event(g: Management, backers: Backing, w: CredentialState, a: Attempt,
     }
 }
 
-fn ingest_outcome(
+fn ingest_answer(
     g: Management,
     backers: Backing,
     w: CredentialState,
     a: Attempt,
     s: &[u8],
-) -> CredentialOutcome
+) -> Answer
     requires { ⌜ Anchored (now s) a ⌝ }
-    ensures { λ r. ⌜ ((l : List BasicPrefix) → Backs backers l → viewOutcome r ≡ ingestMessage (viewManagement g l) w (viewAttempt (now (s .entry)) a)) ⌝ }
+    ensures { λ r. ⌜ ((l : List BasicPrefix) → Backs backers l → r ≡ ingestAnswer (viewManagement g l) w (viewAttempt (now (s .entry)) a)) ⌝ }
 {
     if !w.registry.same(g.id) {
-        return refused(w, RegistryRejection::InconsistentRegistry);
+        return Answer::Rejected(RegistryRejection::InconsistentRegistry);
     }
-    let answer = ingest_event(g, backers, w, a, s);
+    ingest_event(g, backers, w, a, s)
+}
+
+// The next event of a credential under a registry in two parts, whether both states are well formed or not. It stays in its bytes.
+pub fn ingest_read(
+    well: bool,
+    g: Management,
+    backers: Backing,
+    w: CredentialState,
+    s: &[u8],
+) -> Revocation
+    ensures { λ r. ⌜ ((l : List BasicPrefix) → Backs backers l → revocationAt w (now (s .entry)) r ≡ ingestIf well (viewManagement g l) w (now (s .entry))) ⌝ }
+{
+    let d = Attempt::decode(s);
+    if well & d.ok {
+        let answer = ingest_answer(g, backers, w, d.attempt, s);
+        let said = d.attempt.event.said;
+        return Revocation { answer, said };
+    }
+    Revocation {
+        answer: Answer::Rejected(RegistryRejection::Malformed),
+        said: 0,
+    }
+}
+
+// The next event of a credential: a revocation.
+pub fn ingest(g: RegistryState, w: CredentialState, s: &[u8]) -> CredentialOutcome
+    ensures { λ r. ⌜ viewOutcome r ≡ ingestOf g w (now (s .entry)) ⌝ }
+{
+    let well = g.well_formed() & w.well_formed();
+    let backers = backing_of(g.backers);
+    let r = ingest_read(well, management_of(g), backers, w, s);
+    let answer = r.answer;
     if accepts(answer) {
         let registry = w.registry;
         let credential = w.credential;
-        let head = Said::read(s, a.event.said);
+        let head = Said::read(s, r.said);
         let state = CredentialState {
             registry,
             credential,
@@ -141,30 +178,4 @@ fn ingest_outcome(
         return CredentialOutcome { answer, state };
     }
     CredentialOutcome { answer, state: w }
-}
-
-// The next event of a credential under a registry in two parts, whether both states are well formed or not.
-pub fn ingest_managed(
-    well: bool,
-    g: Management,
-    backers: Backing,
-    w: CredentialState,
-    s: &[u8],
-) -> CredentialOutcome
-    ensures { λ r. ⌜ ((l : List BasicPrefix) → Backs backers l → viewOutcome r ≡ ingestIf well (viewManagement g l) w (now (s .entry))) ⌝ }
-{
-    let d = Attempt::decode(s);
-    if well & d.ok {
-        return ingest_outcome(g, backers, w, d.attempt, s);
-    }
-    refused(w, RegistryRejection::Malformed)
-}
-
-// The next event of a credential: a revocation.
-pub fn ingest(g: RegistryState, w: CredentialState, s: &[u8]) -> CredentialOutcome
-    ensures { λ r. ⌜ viewOutcome r ≡ ingestOf g w (now (s .entry)) ⌝ }
-{
-    let well = g.well_formed() & w.well_formed();
-    let backers = backing_of(g.backers);
-    ingest_managed(well, management_of(g), backers, w, s)
 }

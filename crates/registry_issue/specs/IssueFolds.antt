@@ -2,7 +2,7 @@
 use Prim.Native.Nat.{ℕ}
 use mathlib.Core.List.{List, [], _∷_}
 use mathlib.Core.Bool.{Bool, not, cond}
-use Rattle.cesr.specs.Primitives.{eqSaid}
+use Rattle.cesr.specs.Primitives.{eqSaid, saidAt}
 use Rattle.cesr.specs.declared.primitive.Said.{Said}
 use Rattle.events_tel.specs.TelEvents.{Event, snZero}
 use Rattle.events_tel.specs.TelEvents.Event.{vcp, vrt, iss, rev, bis, brv}
@@ -20,6 +20,7 @@ use Rattle.registry_answer.specs.Answers.{accepts, acceptIf, firstOf}
 use Rattle.registry_authentication.specs.Issuers.{anchored, authenticateIssuer}
 use Rattle.registry_backer.specs.Backers.{isBackerless, authenticateBacker}
 use Rattle.registry_issue.specs.declared.credential_state.CredentialOutcome.{CredentialOutcome}
+use Rattle.registry_issue.specs.declared.credential_state.Issue.{Issue}
 
 -- an answer, and the state behind it
 pub record Outcome : Type 0 where
@@ -81,3 +82,8 @@ inceptOf g s = inceptIf (wellRegistry g) (viewRegistry g) s
 -- what the code's struct stands for
 abbrev pub viewOutcome : CredentialOutcome → Outcome
 viewOutcome r = record { answer = r .answer; state = r .state }
+
+-- and what places in an attempt's bytes stand for
+abbrev pub issueAt : List ℕ → Issue → Outcome
+issueAt s r =
+    record { answer = r .answer; state = cond (accepts (r .answer)) (record { registry = saidAt s (r .registry); credential = saidAt s (r .credential); sn = snZero; head = saidAt s (r .said) }) noCredential }

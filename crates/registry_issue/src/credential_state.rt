@@ -2,7 +2,6 @@
 use cesr::primitive::Said;
 use cesr_sn::number::Sn;
 use events_tel::tel::Kind;
-use events_tel::tel::TelEvent;
 use registry_answer::answer::accepts;
 use registry_authentication::issuer::authenticate_issuer;
 use registry_authentication::issuer::message_anchored;
@@ -25,12 +24,20 @@ ghost use Rattle.registry_management.specs.Managements.{viewManagement, Backs};
 ghost use Rattle.registry_wire.specs.Attempts.{viewAttempt};
 ghost use Rattle.registry_error.specs.declared.error.Answer.the-variants.{Rejected};
 ghost use Rattle.registry_authentication.specs.Issuers.{Anchored};
-ghost use Rattle.registry_issue.specs.IssueFolds.{issAnswer, bisAnswer, inceptEvent, issued, inceptMessage, inceptIf, inceptOf, viewOutcome};
+ghost use Rattle.registry_issue.specs.IssueFolds.{issAnswer, bisAnswer, inceptEvent, issueAt, inceptIf, inceptOf, viewOutcome};
 
 // An answer, and the state behind it: the next one, or after a refusal the one that was handed in. Where none is handed in it is blank.
 pub struct CredentialOutcome {
     pub answer: Answer,
     pub state: CredentialState,
+}
+
+// An answer to an issue, and where what its state is made of stands in the attempt's bytes. The places mean something where the answer accepts.
+pub struct Issue {
+    pub answer: Answer,
+    pub said: usize,
+    pub credential: usize,
+    pub registry: usize,
 }
 
 // An iss's checks behind its kind. Each that refuses is returned, since an answer is copied wherever it is joined to another.
@@ -110,48 +117,6 @@ fn incept_event(g: Management, backers: Backing, a: Attempt, s: &[u8]) -> Answer
     }
 }
 
-// The state that an issue leaves: blank for another kind.
-fn issued(registry: Said, e: TelEvent, s: &[u8]) -> CredentialState
-    ensures { λ r. ⌜ r ≡ issued registry (viewEvent (now (s .entry)) e) ⌝ }
-{
-    let credential = Said::read(s, e.credential);
-    let head = Said::read(s, e.said);
-    let first = CredentialState {
-        registry,
-        credential,
-        sn: Sn { hi: 0, lo: 0 },
-        head,
-    };
-    let kind = e.kind;
-    match kind {
-        Kind::Vcp => CredentialState::none(),
-        Kind::Vrt => CredentialState::none(),
-        Kind::Iss => first,
-        Kind::Rev => CredentialState::none(),
-        Kind::Bis => first,
-        Kind::Brv => CredentialState::none(),
-    }
-}
-
-fn incept_outcome(g: Management, backers: Backing, a: Attempt, s: &[u8]) -> CredentialOutcome
-    requires { ⌜ Anchored (now s) a ⌝ }
-    ensures { λ r. ⌜ ((l : List BasicPrefix) → Backs backers l → viewOutcome r ≡ inceptMessage (viewManagement g l) (viewAttempt (now (s .entry)) a)) ⌝ }
-{
-    let answer = incept_event(g, backers, a, s);
-    if accepts(answer) {
-        let first = issued(g.id, a.event, s);
-        return CredentialOutcome {
-            answer,
-            state: first,
-        };
-    }
-    let blank = CredentialState::none();
-    CredentialOutcome {
-        answer,
-        state: blank,
-    }
-}
-
 // A refusal: the state stays.
 pub fn refused(w: CredentialState, refusal: RegistryRejection) -> CredentialOutcome
     ensures { λ r. ⌜ viewOutcome r ≡ record { answer = Rejected refusal; state = w } ⌝ }
@@ -162,15 +127,29 @@ pub fn refused(w: CredentialState, refusal: RegistryRejection) -> CredentialOutc
     }
 }
 
-// The first event of a credential under a registry in two parts, whether that is well formed or not.
-pub fn incept_managed(well: bool, g: Management, backers: Backing, s: &[u8]) -> CredentialOutcome
-    ensures { λ r. ⌜ ((l : List BasicPrefix) → Backs backers l → viewOutcome r ≡ inceptIf well (viewManagement g l) (now (s .entry))) ⌝ }
+// The first event of a credential under a registry in two parts, whether that is well formed or not. It stays in its bytes.
+pub fn incept_read(well: bool, g: Management, backers: Backing, s: &[u8]) -> Issue
+    ensures { λ r. ⌜ ((l : List BasicPrefix) → Backs backers l → issueAt (now (s .entry)) r ≡ inceptIf well (viewManagement g l) (now (s .entry))) ⌝ }
 {
     let d = Attempt::decode(s);
     if well & d.ok {
-        return incept_outcome(g, backers, d.attempt, s);
+        let answer = incept_event(g, backers, d.attempt, s);
+        let said = d.attempt.event.said;
+        let credential = d.attempt.event.credential;
+        let registry = d.attempt.event.registry;
+        return Issue {
+            answer,
+            said,
+            credential,
+            registry,
+        };
     }
-    refused(CredentialState::none(), RegistryRejection::Malformed)
+    Issue {
+        answer: Answer::Rejected(RegistryRejection::Malformed),
+        said: 0,
+        credential: 0,
+        registry: 0,
+    }
 }
 
 // The first event of a credential: an issue.
@@ -179,5 +158,20 @@ pub fn incept(g: RegistryState, s: &[u8]) -> CredentialOutcome
 {
     let well = g.well_formed();
     let backers = backing_of(g.backers);
-    incept_managed(well, management_of(g), backers, s)
+    let r = incept_read(well, management_of(g), backers, s);
+    let answer = r.answer;
+    if accepts(answer) {
+        let registry = Said::read(s, r.registry);
+        let credential = Said::read(s, r.credential);
+        let head = Said::read(s, r.said);
+        let state = CredentialState {
+            registry,
+            credential,
+            sn: Sn { hi: 0, lo: 0 },
+            head,
+        };
+        return CredentialOutcome { answer, state };
+    }
+    let state = CredentialState::none();
+    CredentialOutcome { answer, state }
 }
