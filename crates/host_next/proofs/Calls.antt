@@ -1,18 +1,20 @@
 -- What the calls over bytes leave.
 --     no-state        bytes that are no state
 --     stored, kept    an answer that accepts, and one that refuses
+--     next-left       a fold that accepts, and a writer of its state that tests for room
 --     refused         a fold that refuses, whatever its state
-use Prim.Native.Nat.{ℕ, _+_, _≤_}
-use mathlib.Core.Path.{_≡_, ap, sym, _∙_}
-use mathlib.Core.Bool.{true, false, false≢true}
+use Prim.Native.Nat.{ℕ}
+use mathlib.Core.Path.{_≡_, refl, ap, sym, _∙_}
+use mathlib.Core.Bool.{Bool, true, false, false≢true}
 use mathlib.Core.List.{List}
+use native.Mathlib.Nat.{zero-add}
 use native.Mathlib.Omega.{arith}
-use borrow.Author.Tests.{leb-true}
+use borrow.Author.Tests.{leb-true, leb-false}
 use lib.Dec.{leb}
 use lib.ListN.{length}
 use lib.Seq.{sets}
-use Rattle.laws.specs.Room.{put}
-use Rattle.laws.proofs.Room.{put-sets}
+use Rattle.laws.specs.Room.{room, put}
+use Rattle.laws.proofs.Room.{put-sets, put-none}
 use Rattle.registry_error.specs.declared.error.RegistryRejection.the-variants.{Malformed, ShortBuffer}
 use Rattle.registry_error.specs.declared.error.Answer.{Answer}
 use Rattle.registry_error.specs.declared.error.Answer.the-variants.{Accepted, Rejected}
@@ -42,3 +44,16 @@ pub refused : (f : Folded) (next : List ℕ) (x : Answer) (n : ℕ) (report : Li
 unfolding callOf answerIn
 refused f next Accepted n report e t h = absurd (false≢true (sym t))
 refused f next (Rejected r) n report e t h = rw (h .0, h .1, ← e)
+
+next-left-by : (bytes next left : List ℕ) (size n : ℕ) (report : List ℕ) (t : Bool) → leb (length bytes) (length next) ≡ t → size ≡ length bytes → (n ≡ answerNumber (acceptIf t ShortBuffer)) × (report ≡ sizedReport (acceptIf t ShortBuffer) size) → left ≡ put next 0 bytes → called n report left ≡ callOf (record { answer = Accepted; bytes = bytes }) next
+unfolding callOf answerIn acceptIf
+next-left-by bytes next left size n report true e g h p =
+    rw (h .0, h .1, p, put-sets next 0 (length bytes) bytes refl (omega (arith, leb-true (length bytes) (length next) e)), g, e)
+next-left-by bytes next left size n report false e g h p =
+    rw (h .0, h .1, p, put-none next 0 (length bytes) bytes refl (omega (arith, leb-false (length bytes) (length next) e)), e)
+
+pub next-left : (bytes next left : List ℕ) (size n : ℕ) (report : List ℕ) (a : Answer) (t : Bool) → t ≡ room next 0 (length bytes) → a ≡ acceptIf t ShortBuffer → size ≡ length bytes → (n ≡ answerNumber a) × (report ≡ sizedReport a size) → left ≡ put next 0 bytes → called n report left ≡ callOf (record { answer = Accepted; bytes = bytes }) next
+unfolding room
+next-left bytes next left size n report a t e f g h p =
+    let z : leb (length bytes) (length next) ≡ t = ap (λ (k : ℕ). leb k (length next)) (sym (zero-add (length bytes))) ∙ sym e in
+    next-left-by bytes next left size n report t z g (h .0 ∙ ap answerNumber f, h .1 ∙ ap (λ (x : Answer). sizedReport x size) f) p

@@ -7,10 +7,12 @@ use lib.Dec.{eqb, leb}
 use lib.ListN.{length}
 use lib.Seq.{sets}
 use Rattle.codec_cursor.specs.Readers.{Read, starting}
+use Rattle.registry_copy.specs.NextStates.{nextBytes}
+use Rattle.registry_copy.specs.declared.next.NextState.{NextState}
 use Rattle.registry_state.specs.States.{Registry, registryBytes, credentialBytes, readRegistry}
 use Rattle.registry_error.specs.declared.error.RegistryRejection.the-variants.{Malformed, ShortBuffer}
 use Rattle.registry_error.specs.declared.error.Answer.{Answer}
-use Rattle.registry_error.specs.declared.error.Answer.the-variants.{Rejected}
+use Rattle.registry_error.specs.declared.error.Answer.the-variants.{Accepted, Rejected}
 use Rattle.registry_error.specs.Errors.{answerNumber}
 use Rattle.registry_answer.specs.Answers.{accepts, acceptIf, orElse}
 use Rattle.registry_inception.specs.InceptionFolds as N
@@ -34,6 +36,10 @@ registryFolded o = record { answer = o .answer; bytes = registryBytes (o .state)
 
 abbrev pub credentialFolded : I.Outcome → Folded
 credentialFolded o = record { answer = o .answer; bytes = credentialBytes (o .state) }
+
+-- a fold that accepts, and the bytes of a next state that is made from bytes
+abbrev pub nextFolded : List ℕ → List ℕ → NextState → Folded
+nextFolded held s p = record { answer = Accepted; bytes = nextBytes held s p }
 
 -- 1 before everything: bytes that are handed in as a state and are none
 abbrev pub noState : Folded

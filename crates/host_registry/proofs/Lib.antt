@@ -1,1 +1,2 @@
+pub mod InceptionCalls
 pub mod RotationCalls

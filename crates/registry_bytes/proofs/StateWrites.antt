@@ -1,8 +1,9 @@
 -- Laws of the bytes of states.
---     length-head, length-rest, length-state     how many bytes there are
+--     length-head, length-rest, length-front, length-state     how many bytes there are
 --     config-step, backer-step   how a loop writes a section, an element a turn
 --     part-stored            a run stored at the start of a lent part is that run stored in the whole
---     head-sets, rest-sets, state-sets   the parts of a state, one behind the other
+--     head-sets, rest-sets, front-sets, state-sets   the parts of a state, one behind the other
+--     state-front            a state is what stands before its backers, then they
 use Prim.Native.Nat.{ℕ, suc, _+_, _-_, _*_, _<_, _≤_}
 use mathlib.Core.Path.{_≡_, refl, ap, sym, _∙_}
 use mathlib.Core.List.{List, [], _∷_, _++_, append-assoc, append-nil}
@@ -25,7 +26,7 @@ use Rattle.cesr.proofs.Matters.{length-matter}
 use Rattle.events.specs.Members.{noPrefix, at}
 use Rattle.codec.specs.Layout.{joined, sectionBytes, byteBytes, prefixBytes}
 use Rattle.codec_laws.proofs.CodesList.{joined-snoc}
-use Rattle.registry_bytes.specs.StateBytes.{headBytes, restBytes, stateBytes}
+use Rattle.registry_bytes.specs.StateBytes.{headBytes, restBytes, frontBytes, stateBytes}
 
 module _ {A : Type 0} (f : A → List ℕ) (k : ℕ) (each : (x : A) → length (f x) ≡ k) where
   length-joined : (l : List A) → length (joined f l) ≡ k * length l
@@ -119,6 +120,20 @@ unfolding restBytes
 rest-sets l at toad configs backers h =
     let p : put l at (digits 4 toad) ≡ sets l at (digits 4 toad) = put-sets l at 4 (digits 4 toad) (length-digits 4 toad) h in
     rw (p, sets-append, length-digits, sets-append, length-configs, add-assoc (at + 4) 1 (length configs))
+
+pub length-front : (a b : Matter) (n : Sn) (d : Matter) (toad : ℕ) (configs : List ℕ) → length (frontBytes a b n d toad configs) ≡ 120 + length configs
+unfolding frontBytes
+length-front a b n d toad configs = rw (length-append, length-append, length-head, length-digits, length-configs) (omega arith)
+
+pub front-sets : (l : List ℕ) (a b : Matter) (n : Sn) (d : Matter) (toad : ℕ) (configs : List ℕ) → 119 ≤ length l → sets (put (sets l 0 (headBytes a b n d)) 115 (digits 4 toad)) 119 (sectionBytes byteBytes configs) ≡ sets l 0 (frontBytes a b n d toad configs)
+unfolding frontBytes
+front-sets l a b n d toad configs h =
+    let p : put (sets l 0 (headBytes a b n d)) 115 (digits 4 toad) ≡ sets (sets l 0 (headBytes a b n d)) 115 (digits 4 toad) = put-sets (sets l 0 (headBytes a b n d)) 115 4 (digits 4 toad) (length-digits 4 toad) (rw length-sets h) in
+    rw (p, sets-append, length-head, sets-append, length-digits)
+
+pub state-front : (a b : Matter) (n : Sn) (d : Matter) (toad : ℕ) (configs : List ℕ) (backers : List BasicPrefix) → stateBytes a b n d toad configs backers ≡ frontBytes a b n d toad configs ++ sectionBytes prefixBytes backers
+unfolding stateBytes restBytes frontBytes
+state-front a b n d toad configs backers = sym (simp append-assoc)
 
 -- a store before a run of stores may go first
 set-before : (l : List ℕ) (i j v : ℕ) (ws : List ℕ) → i < j → set (sets l j ws) i v ≡ sets (set l i v) j ws

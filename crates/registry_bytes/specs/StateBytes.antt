@@ -17,6 +17,10 @@ headBytes a b n d = matterBytes a ++ (matterBytes b ++ (snBytes n ++ matterBytes
 unfoldable pub restBytes : ℕ → List ℕ → List BasicPrefix → List ℕ
 restBytes toad configs backers = digits 4 toad ++ (sectionBytes byteBytes configs ++ sectionBytes prefixBytes backers)
 
+-- a registry state before its backers
+unfoldable pub frontBytes : Matter → Matter → Sn → Matter → ℕ → List ℕ → List ℕ
+frontBytes a b n d toad configs = headBytes a b n d ++ (digits 4 toad ++ sectionBytes byteBytes configs)
+
 -- a registry state
 unfoldable pub stateBytes : Matter → Matter → Sn → Matter → ℕ → List ℕ → List BasicPrefix → List ℕ
 stateBytes a b n d toad configs backers = headBytes a b n d ++ restBytes toad configs backers

@@ -11,10 +11,11 @@ ghost use Prim.Native.Nat.{_+_, _*_, _≤_};
 ghost use lib.ListN.{length};
 ghost use lib.Seq.{sets};
 ghost use Rattle.laws.specs.Room.{room, put};
+ghost use Rattle.cesr.specs.Primitives.{readMatter};
 ghost use Rattle.events_tel.specs.Configs.{viewConfigs};
 ghost use Rattle.events.specs.Members.{view};
 ghost use Rattle.codec.specs.Layout.{sectionBytes, byteBytes, prefixBytes};
-ghost use Rattle.registry_bytes.specs.StateBytes.{headBytes, restBytes, stateBytes};
+ghost use Rattle.registry_bytes.specs.StateBytes.{headBytes, restBytes, frontBytes, stateBytes};
 
 // How many bytes a registry state has: 121, the config bytes, and 33 for each backer.
 pub fn state_size(configs: Configs, backers: Members) -> usize
@@ -55,6 +56,41 @@ pub fn write_registry(
     write_rest(out, at + 115, toad, configs, backers);
     write_head(out, at, a, b, sn, d);
     true
+}
+
+// A registry state before its backers, from the start of `out` on. Its primitives are copied from where they stand: id and issuer in one slice, the digest of the last event in another. Stores all its bytes or none, and answers which.
+pub fn copy_front(
+    held: &[u8],
+    id: usize,
+    issuer: usize,
+    sn: Sn,
+    s: &[u8],
+    latest: usize,
+    toad: Toad,
+    configs: Configs,
+    out: &mut [u8],
+) -> bool
+    ensures { λ r. ⌜ (r ≡ room (now (out .entry)) 0 (length (frontBytes (readMatter (now (held .entry)) id) (readMatter (now (held .entry)) issuer) sn (readMatter (now (s .entry)) latest) (toad .0) (viewConfigs configs)))) × (now (out .exit) ≡ put (now (out .entry)) 0 (frontBytes (readMatter (now (held .entry)) id) (readMatter (now (held .entry)) issuer) sn (readMatter (now (s .entry)) latest) (toad .0) (viewConfigs configs))) ⌝ }
+{
+    if !has_room(out.len(), 0, 120 + configs.size()) {
+        return false;
+    }
+    copy_head(held, id, issuer, sn, s, latest, out);
+    write_u32(out, 115, toad.value());
+    let from: usize = 119;
+    write_configs(&mut out[from..], configs);
+    true
+}
+
+// The head of a registry state, copied from where it stands.
+fn copy_head(held: &[u8], id: usize, issuer: usize, sn: Sn, s: &[u8], latest: usize, out: &mut [u8])
+    requires { ⌜ 115 ≤ length (now out) ⌝ }
+    ensures { λ r. ⌜ now (out .exit) ≡ sets (now (out .entry)) 0 (headBytes (readMatter (now (held .entry)) id) (readMatter (now (held .entry)) issuer) sn (readMatter (now (s .entry)) latest)) ⌝ }
+{
+    Matter::copy(held, id, out, 0);
+    Matter::copy(held, issuer, out, 33);
+    sn.write(out, 66);
+    Matter::copy(s, latest, out, 82);
 }
 
 // Two primitives, a number and a primitive, in 115 bytes.

@@ -1,21 +1,26 @@
 -- The inception of a registry over decoded attempts.
+--     incept-placed      what the places of a decoded attempt stand for
+--     incept-within      an accepted inception leaves a state with the letters and bytes of its places
 --     incept-kind        what an accepted attempt was
 --     incept-lettered    an accepted attempt leaves a state with the letters and bytes of its places
 use Prim.Native.Nat.{ℕ}
-use mathlib.Core.Path.{_≡_, refl}
+use mathlib.Core.Path.{_≡_, refl, ap, sym, _∙_}
 use mathlib.Core.List.{List}
-use mathlib.Core.Bool.{true, false, _&&_, false≢true}
+use mathlib.Core.Bool.{Bool, true, false, _&&_, false≢true}
 use lib.Dec.{leb}
 use lib.ListN.{length}
+use Rattle.laws.specs.Number.{Bytes}
 use Rattle.laws.proofs.Tests.{and-left}
-use Rattle.events_tel.specs.TelEvents.{Event, eventAs}
+use Rattle.events_tel.specs.TelEvents.{Event, eventAs, viewEvent}
 use Rattle.events_tel.specs.TelEvents.Event.{vcp, vrt, iss, rev, bis, brv}
 use Rattle.events_tel.specs.declared.tel.Kind.{Kind}
 use Rattle.events_tel.specs.declared.tel.Kind.the-variants.{Vcp, Vrt, Iss, Rev, Bis, Brv}
 use Rattle.events_tel.specs.declared.tel.TelEvent.{TelEvent}
 use Rattle.codec.specs.Layout.{all, goodEvent}
 use Rattle.registry_state.specs.States.{Registry, noRegistry}
-use Rattle.registry_wire.specs.Attempts.{Message, goodSource, goodAnchors, goodEvidence, goodMessage, viewAttempt, viewDecoded, decodeOf}
+use Rattle.registry_wire.specs.Attempts.{Message, Decoded, goodSource, goodAnchors, goodEvidence, goodMessage, viewAttempt, viewDecoded, decodeOf}
+use Rattle.registry_wire.specs.Attempts.Decoded.{malformed, decoded}
+use Rattle.registry_wire.proofs.CodesAttempt.{decodes}
 use Rattle.registry_signatures.specs.SignatureSections.{goodSignature}
 use Rattle.registry_wire.specs.declared.attempt.Attempt.{Attempt}
 use Rattle.registry_wire.specs.declared.attempt.DecodedAttempt.{DecodedAttempt}
@@ -24,7 +29,8 @@ use Rattle.registry_error.specs.declared.error.Answer.{Answer}
 use Rattle.registry_error.specs.declared.error.Answer.the-variants.{Rejected}
 use Rattle.registry_error.specs.declared.error.RegistryRejection.the-variants.{Malformed}
 use Rattle.registry_authentication.specs.Issuers.{issuerKind}
-use Rattle.registry_inception.specs.InceptionFolds.{inceptEvent, inceptAnswer, incepted, inceptMessage, inceptOf}
+use Rattle.registry_inception.specs.InceptionFolds.{inceptEvent, inceptAnswer, incepted, inceptMessage, inceptDecoded, inceptOf, inceptedAt, inceptionAt}
+use Rattle.registry_inception.specs.declared.registry.Inception.{Inception}
 use Rattle.registry_answer.proofs.AnswerLaws.{or-second}
 use Rattle.registry_inception.proofs.WellLaws.{Lettered, good-incepted}
 
@@ -47,14 +53,6 @@ incept-kind s a h =
     let m = viewAttempt s a in
     incept-kind-by s (a .event .kind) (a .event) m (or-second (issuerKind (m .evidence)) (inceptEvent (m .event) m) h)
 
-pub incept-accepted : (m : Message) (x : Answer) (g : Registry) → x ≡ inceptAnswer m → accepts x ≡ true → g ≡ incepted (m .event) → record { answer = x; state = g } ≡ inceptMessage m
-unfolding inceptMessage
-incept-accepted m x g e h f = rw (f, ← e, h)
-
-pub incept-refused : (m : Message) (x : Answer) (g : Registry) → x ≡ inceptAnswer m → accepts x ≡ false → g ≡ noRegistry → record { answer = x; state = g } ≡ inceptMessage m
-unfolding inceptMessage
-incept-refused m x g e h f = rw (f, ← e, h)
-
 incept-lettered-by : (e : Event) (m : Message) → goodEvent e ≡ true → accepts (inceptEvent e m) ≡ true → Lettered (incepted e)
 incept-lettered-by (vcp said issuer toad configs backers) m g h = good-incepted said issuer toad configs backers g
 incept-lettered-by (vrt said registry prior sn toad cuts additions) m g h = absurd (false≢true h)
@@ -76,3 +74,44 @@ incept-decoded s d e ok = rw (← e, ok)
 pub incept-malformed : (s : List ℕ) (d : DecodedAttempt) → viewDecoded s d ≡ decodeOf s → d .ok ≡ false → inceptOf s ≡ record { answer = Rejected Malformed; state = noRegistry }
 unfolding inceptOf
 incept-malformed s d e ok = rw (← e, ok)
+
+-- what the places of a decoded attempt stand for
+module _ (s : List ℕ) (a : Attempt) where
+  abbrev placed : Answer → Inception
+  placed x =
+      record { answer = x; said = a .event .said; issuer = a .event .issuer; toad = a .event .toad; configs = a .event .configs; backers = a .event .backers }
+
+  accepted-at : (x : Answer) → a .event .kind ≡ Vcp → inceptedAt s (placed x) ≡ incepted (viewEvent s (a .event))
+  unfolding inceptedAt
+  accepted-at x k = rw k
+
+  placed-by : (x : Answer) (t : Bool) → x ≡ inceptAnswer (viewAttempt s a) → accepts x ≡ t → inceptionAt s (placed x) ≡ inceptMessage (viewAttempt s a)
+  unfolding inceptionAt inceptMessage
+  placed-by x true e h = rw (← e, h, accepted-at x (incept-kind s a (sym (ap accepts e) ∙ h)))
+  placed-by x false e h = rw (← e, h)
+
+  pub incept-placed : (x : Answer) → x ≡ inceptAnswer (viewAttempt s a) → inceptionAt s (placed x) ≡ inceptMessage (viewAttempt s a)
+  incept-placed x e = placed-by x (accepts x) e refl
+
+-- what is read of malformed bytes means nothing
+pub incept-unplaced : (s : List ℕ) (r : Inception) → r .answer ≡ Rejected Malformed → inceptionAt s r ≡ record { answer = Rejected Malformed; state = noRegistry }
+unfolding inceptionAt
+incept-unplaced s r e = rw e
+
+-- an inception with the state that its places stand for, and without one
+module _ (s : List ℕ) (r : Inception) (g : Registry) where
+  pub outcome-accepted : accepts (r .answer) ≡ true → g ≡ inceptedAt s r → record { answer = r .answer; state = g } ≡ inceptionAt s r
+  unfolding inceptionAt
+  outcome-accepted h e = rw (h, e)
+
+  pub outcome-refused : accepts (r .answer) ≡ false → g ≡ noRegistry → record { answer = r .answer; state = g } ≡ inceptionAt s r
+  unfolding inceptionAt
+  outcome-refused h e = rw (h, e)
+
+within-by : (s : List ℕ) (d : Decoded) → Bytes s → decodeOf s ≡ d → accepts (inceptDecoded d .answer) ≡ true → Lettered (inceptDecoded d .state)
+within-by s malformed b e h = absurd (false≢true h)
+within-by s (decoded m) b e h = incept-lettered m (decodes s m b .0 e .1) h
+
+pub incept-within : (s : List ℕ) → Bytes s → accepts (inceptOf s .answer) ≡ true → Lettered (inceptOf s .state)
+unfolding inceptOf
+incept-within s b h = within-by s (decodeOf s) b refl h

@@ -1,2 +1,3 @@
 pub mod InceptionLaws
+pub mod VcpLaws
 pub mod WellLaws

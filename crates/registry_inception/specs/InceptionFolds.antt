@@ -7,9 +7,10 @@ use lib.ListN.{length}
 use Rattle.cesr.specs.declared.primitive.Matter.{Matter}
 use Rattle.cesr.specs.declared.primitive.Said.{Said}
 use Rattle.cesr.specs.declared.primitive.BasicPrefix.{BasicPrefix}
-use Rattle.events_tel.specs.Configs.{noBackers}
+use Rattle.cesr.specs.Primitives.{readMatter, saidAt}
+use Rattle.events_tel.specs.Configs.{noBackers, viewConfigs}
 use Rattle.events.specs.Members.{checkMembers}
-use Rattle.events_tel.specs.TelEvents.{Event, snZero}
+use Rattle.events_tel.specs.TelEvents.{Event, snZero, membersIn}
 use Rattle.events_tel.specs.TelEvents.Event.{vcp, vrt, iss, rev, bis, brv}
 use Rattle.events_toad.specs.Toads.{exactOk}
 use Rattle.registry_state.specs.States.{Registry, viewRegistry, noRegistry}
@@ -22,6 +23,7 @@ use Rattle.registry_answer.specs.Answers.{accepts, acceptIf, backerSet, orElse,
 use Rattle.registry_authentication.specs.Issuers.{issuerKind, namesIssuer, anchored}
 use Rattle.registry_backer.specs.Backers.{enoughReceipts}
 use Rattle.registry_inception.specs.declared.registry.RegistryOutcome.{RegistryOutcome}
+use Rattle.registry_inception.specs.declared.registry.Inception.{Inception}
 
 -- an answer, and the state behind it
 pub record Outcome : Type 0 where
@@ -81,3 +83,13 @@ inceptOf s = inceptDecoded (decodeOf s)
 -- what the code's struct stands for
 abbrev pub viewOutcome : RegistryOutcome → Outcome
 viewOutcome r = record { answer = r .answer; state = viewRegistry (r .state) }
+
+-- the state that the places of an inception stand for, over the bytes that it was read from
+unfoldable pub inceptedAt : List ℕ → Inception → Registry
+inceptedAt s r =
+    record
+    { id = saidAt s (r .said); issuer = readMatter s (r .issuer); sn = snZero; latest = saidAt s (r .said); toad = r .toad .0; configs = viewConfigs (r .configs); backers = membersIn s (r .backers) }
+
+-- its outcome: the places mean something where it is accepted
+unfoldable pub inceptionAt : List ℕ → Inception → Outcome
+inceptionAt s r = record { answer = r .answer; state = cond (accepts (r .answer)) (inceptedAt s r) noRegistry }

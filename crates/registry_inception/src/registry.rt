@@ -2,22 +2,22 @@
 use cesr::number::Sn;
 use cesr::primitive::Matter;
 use cesr::primitive::Said;
+use codec::section::at_most_16;
 use codec::section::members_in;
-use events::member_set::MemberSet;
-use events::member_set::Members;
+use codec_cursor::cursor::Cursor;
+use events_tel::config::Configs;
 use events_tel::tel::Kind;
-use events_tel::tel::TelEvent;
+use events_tel::tel::Listed;
 use events_toad::toad::Toad;
 use registry_answer::answer::accept_if;
 use registry_answer::answer::accepts;
 use registry_answer::answer::backer_set;
-use registry_answer::answer::or_else;
 use registry_authentication::issuer::issuer_kind;
 use registry_authentication::issuer::message_anchored;
-use registry_authentication::issuer::names_issuer;
 use registry_backer::backer::enough_receipts;
 use registry_error::error::Answer;
 use registry_error::error::RegistryRejection;
+use registry_rotation::deltas::check_members;
 use registry_state::state::RegistryState;
 use registry_wire::attempt::Attempt;
 ghost use Prim.Native.Nat.{_≤_};
@@ -26,18 +26,26 @@ ghost use mathlib.Core.Bool.{true};
 ghost use Rattle.cesr.specs.Primitives.{readMatter, saidAt};
 ghost use Rattle.events_tel.specs.TelEvents.{viewEvent, membersIn};
 ghost use Rattle.events_tel.specs.Configs.{viewConfigs};
-ghost use Rattle.events.specs.Members.{view};
-ghost use Rattle.events_tel.specs.declared.tel.Kind.the-variants.{Vcp};
 ghost use Rattle.registry_state.specs.States.{viewRegistry, wellRegistry};
 ghost use Rattle.registry_wire.specs.Attempts.{viewAttempt};
 ghost use Rattle.registry_answer.specs.Answers.{accepts};
 ghost use Rattle.registry_authentication.specs.Issuers.{Anchored};
-ghost use Rattle.registry_inception.specs.InceptionFolds.{thresholdFits, vcpAnswer, inceptEvent, inceptMessage, incepted, inceptOf, viewOutcome};
+ghost use Rattle.registry_inception.specs.InceptionFolds.{thresholdFits, vcpAnswer, inceptEvent, inceptAnswer, inceptedAt, inceptionAt, inceptOf, viewOutcome};
 
 // An answer, and the state behind it: the next one, or after a refusal the one that was handed in. Where none is handed in it is blank.
 pub struct RegistryOutcome {
     pub answer: Answer,
     pub state: RegistryState,
+}
+
+// An answer to an inception, and what its state is made of: values, and places in the attempt's bytes. They mean something where the answer accepts.
+pub struct Inception {
+    pub answer: Answer,
+    pub said: usize,
+    pub issuer: usize,
+    pub toad: Toad,
+    pub configs: Configs,
+    pub backers: Listed,
 }
 
 // Whether so many backers can meet the toad.
@@ -48,39 +56,46 @@ pub fn threshold_fits(toad: Toad, backers: usize) -> Answer
     accept_if(exact, RegistryRejection::BackerThreshold)
 }
 
-// A vcp's checks behind its kind; the backers are those of its list.
-fn vcp_answer(a: Attempt, s: &[u8], backers: Members) -> Answer
+// A vcp's checks behind its kind. The first that refuses is returned at once, since an answer is copied by every check behind it.
+fn vcp_answer(a: Attempt, s: &[u8]) -> Answer
     requires { ⌜ Anchored (now s) a ⌝ }
-    ensures { λ r. ⌜ r ≡ vcpAnswer (saidAt (now (s .entry)) (a .event .said)) (readMatter (now (s .entry)) (a .event .issuer)) (a .event .toad .0) (viewConfigs (a .event .configs)) (view backers) (viewAttempt (now (s .entry)) a) ⌝ }
+    ensures { λ r. ⌜ r ≡ vcpAnswer (saidAt (now (s .entry)) (a .event .said)) (readMatter (now (s .entry)) (a .event .issuer)) (a .event .toad .0) (viewConfigs (a .event .configs)) (membersIn (now (s .entry)) (a .event .backers)) (viewAttempt (now (s .entry)) a) ⌝ }
 {
-    let said = Said::read(s, a.event.said);
     let issuer = Matter::read(s, a.event.issuer);
+    let named = (a.evidence == 1) & issuer.same_at(s, a.issuer);
+    if !named {
+        return Answer::Rejected(RegistryRejection::InconsistentIssuer);
+    }
     let toad = a.event.toad;
-    let zero = Sn { hi: 0, lo: 0 };
-    let named = names_issuer(a.evidence, Matter::read(s, a.issuer), issuer);
-    let prefix = accept_if(named, RegistryRejection::InconsistentIssuer);
-    let count = backers.size();
+    let count = at_most_16(a.event.backers.count);
     let clash = a.event.configs.no_backers() & !(count == 0);
-    let flavor = accept_if(!clash, RegistryRejection::NoBackersWithBackers);
-    let members = backer_set(MemberSet::check_members(backers));
+    if clash {
+        return Answer::Rejected(RegistryRejection::NoBackersWithBackers);
+    }
+    let members = backer_set(check_members(s, a.event.backers));
     let threshold = threshold_fits(toad, count);
-    let anchor = message_anchored(a, s, issuer, said, zero);
-    let receipts = enough_receipts(s, a.signatures, count, toad);
-    let late = or_else(anchor, or_else(receipts, Answer::Accepted));
-    or_else(
-        prefix,
-        or_else(flavor, or_else(members, or_else(threshold, late))),
-    )
+    if !accepts(members) {
+        return members;
+    }
+    if !accepts(threshold) {
+        return threshold;
+    }
+    let said = Said::read(s, a.event.said);
+    let anchor = message_anchored(a, s, issuer, said, Sn { hi: 0, lo: 0 });
+    if !accepts(anchor) {
+        return anchor;
+    }
+    enough_receipts(s, a.signatures, count, toad)
 }
 
-fn incept_event(a: Attempt, s: &[u8], backers: Members) -> Answer
-    requires { ⌜ Anchored (now s) a × (view backers ≡ membersIn (now s) (a .event .backers)) ⌝ }
+fn incept_event(a: Attempt, s: &[u8]) -> Answer
+    requires { ⌜ Anchored (now s) a ⌝ }
     ensures { λ r. ⌜ r ≡ inceptEvent (viewEvent (now (s .entry)) (a .event)) (viewAttempt (now (s .entry)) a) ⌝ }
 {
     let e = a.event;
     let kind = e.kind;
     match kind {
-        Kind::Vcp => vcp_answer(a, s, backers),
+        Kind::Vcp => vcp_answer(a, s),
         Kind::Vrt => Answer::Rejected(RegistryRejection::NotRegistryInception),
         Kind::Iss => Answer::Rejected(RegistryRejection::NotRegistryInception),
         Kind::Rev => Answer::Rejected(RegistryRejection::NotRegistryInception),
@@ -89,16 +104,61 @@ fn incept_event(a: Attempt, s: &[u8], backers: Members) -> Answer
     }
 }
 
-// The state that a vcp with these backers leaves.
-fn incepted(e: TelEvent, s: &[u8], backers: Members) -> RegistryState
-    requires { ⌜ backers .count ≤ 16 ⌝ }
-    ensures view { λ r. ⌜ (view backers ≡ membersIn (now (s .entry)) (e .backers) → e .kind ≡ Vcp → viewRegistry r ≡ incepted (viewEvent (now (s .entry)) e)) ⌝ }
-    ensures counts { λ r. ⌜ (r .configs .count ≤ 8) × (r .backers .count ≤ 16) ⌝ }
+fn incept_answer(a: Attempt, s: &[u8]) -> Answer
+    requires { ⌜ Anchored (now s) a ⌝ }
+    ensures { λ r. ⌜ r ≡ inceptAnswer (viewAttempt (now (s .entry)) a) ⌝ }
 {
-    let said = Said::read(s, e.said);
-    let issuer = Matter::read(s, e.issuer);
-    let toad = e.toad;
-    let configs = e.configs.trimmed();
+    let kind = issuer_kind(a.evidence);
+    if !accepts(kind) {
+        return kind;
+    }
+    incept_event(a, s)
+}
+
+// The first event of a registry, which stays in its bytes.
+pub fn incept_read(s: &[u8]) -> Inception
+    ensures { λ r. ⌜ inceptionAt (now (s .entry)) r ≡ inceptOf (now (s .entry)) ⌝ }
+{
+    let d = Attempt::decode(s);
+    if d.ok {
+        let answer = incept_answer(d.attempt, s);
+        let said = d.attempt.event.said;
+        let issuer = d.attempt.event.issuer;
+        let toad = d.attempt.event.toad;
+        let configs = d.attempt.event.configs;
+        let backers = d.attempt.event.backers;
+        return Inception {
+            answer,
+            said,
+            issuer,
+            toad,
+            configs,
+            backers,
+        };
+    }
+    let toad = Toad::from_wire(0);
+    let configs = Configs::empty();
+    let start = Cursor::start();
+    Inception {
+        answer: Answer::Rejected(RegistryRejection::Malformed),
+        said: 0,
+        issuer: 0,
+        toad,
+        configs,
+        backers: Listed { count: 0, start },
+    }
+}
+
+// The state that the places of an inception stand for.
+fn incepted(r: Inception, s: &[u8]) -> RegistryState
+    ensures view { λ g. ⌜ viewRegistry g ≡ inceptedAt (now (s .entry)) r ⌝ }
+    ensures counts { λ g. ⌜ (g .configs .count ≤ 8) × (g .backers .count ≤ 16) ⌝ }
+{
+    let said = Said::read(s, r.said);
+    let issuer = Matter::read(s, r.issuer);
+    let toad = r.toad;
+    let configs = r.configs.trimmed();
+    let backers = members_in(s, r.backers);
     RegistryState {
         id: said,
         issuer,
@@ -110,33 +170,17 @@ fn incepted(e: TelEvent, s: &[u8], backers: Members) -> RegistryState
     }
 }
 
-fn incept_outcome(a: Attempt, s: &[u8]) -> RegistryOutcome
-    requires { ⌜ Anchored (now s) a ⌝ }
-    ensures view { λ r. ⌜ viewOutcome r ≡ inceptMessage (viewAttempt (now (s .entry)) a) ⌝ }
-    ensures counts { λ r. ⌜ (accepts (r .answer) ≡ true → (r .state .configs .count ≤ 8) × (r .state .backers .count ≤ 16)) ⌝ }
-{
-    let backers = members_in(s, a.event.backers);
-    let answer = or_else(issuer_kind(a.evidence), incept_event(a, s, backers));
-    if accepts(answer) {
-        let state = incepted(a.event, s, backers);
-        return RegistryOutcome { answer, state };
-    }
-    let state = RegistryState::none();
-    RegistryOutcome { answer, state }
-}
-
-// The first event of a registry.
+// The first event of a registry, and its state as a value.
 pub fn incept_with_evidence(s: &[u8]) -> RegistryOutcome
     ensures outcome { λ r. ⌜ viewOutcome r ≡ inceptOf (now (s .entry)) ⌝ }
     ensures within { λ r. ⌜ (accepts (r .answer) ≡ true → wellRegistry (r .state) ≡ true) ⌝ }
 {
-    let d = Attempt::decode(s);
-    if d.ok {
-        return incept_outcome(d.attempt, s);
+    let r = incept_read(s);
+    let answer = r.answer;
+    if accepts(answer) {
+        let state = incepted(r, s);
+        return RegistryOutcome { answer, state };
     }
     let state = RegistryState::none();
-    RegistryOutcome {
-        answer: Answer::Rejected(RegistryRejection::Malformed),
-        state,
-    }
+    RegistryOutcome { answer, state }
 }

@@ -13,7 +13,7 @@ use Rattle.codec_cursor.specs.declared.cursor.Cursor.{Cursor}
 use Rattle.codec_cursor.specs.Readers.{Read, Reader, times}
 use Rattle.registry_members.specs.Updated.{survivors}
 
-survivors-snoc : (cuts a : List BasicPrefix) (x : BasicPrefix) → survivors cuts (a ++ (x ∷ [])) ≡ cond (has x cuts) (survivors cuts a) (survivors cuts a ++ (x ∷ []))
+pub survivors-snoc : (cuts a : List BasicPrefix) (x : BasicPrefix) → survivors cuts (a ++ (x ∷ [])) ≡ cond (has x cuts) (survivors cuts a) (survivors cuts a ++ (x ∷ []))
 unfolding survivors
 survivors-snoc cuts [] x = refl
 survivors-snoc cuts (y ∷ a) x = split (survivors cuts a) (has y cuts) (has x cuts) (survivors-snoc cuts a x)

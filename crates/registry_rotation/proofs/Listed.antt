@@ -14,7 +14,7 @@ use native.Mathlib.Decide.{ℕ-discrete}
 use lib.ListN.{length, take, getD, length-append, List·getD-append}
 use lib.Seq.{take-all, take-append-le, getD-at}
 use Rattle.cesr.specs.declared.primitive.BasicPrefix.{BasicPrefix}
-use Rattle.cesr.specs.Primitives.{eqPrefix}
+use Rattle.cesr.specs.Primitives.{readMatter, eqMatter}
 use Rattle.events.specs.declared.member_set.Rule.{Rule}
 use Rattle.events.specs.declared.member_set.Rule.the-variants.{DuplicateBacker, DuplicateCut, DuplicateAddition, CutAddOverlap, RemovalNotCurrent, AdditionAlreadyPresent}
 use Rattle.events.specs.Members.{at, noPrefix, has, breaks, isRepeat, isMissing}
@@ -23,7 +23,7 @@ use Rattle.events_tel.specs.declared.tel.Listed.{Listed}
 use Rattle.events_tel.specs.TelEvents.{membersIn}
 use Rattle.codec_cursor.specs.declared.cursor.Cursor.{Cursor}
 use Rattle.codec.proofs.Loops.{length-times}
-use Rattle.codec_cursor.specs.Readers.{Read, Reader, readPrefix, times}
+use Rattle.codec_cursor.specs.Readers.{Read, Reader, readIf, readPrefix, times}
 
 module _ {A : Type 0} (p : Reader A) (s : List ℕ) (c : Cursor) where
   -- fewer elements are the first of more
@@ -55,11 +55,11 @@ all-listed s l n e = rw e
 pub listed-at : (s : List ℕ) (l : Cursor) (n i : ℕ) (c : Cursor) (r : Read BasicPrefix) → i < n → c ≡ times i readPrefix s l .next → r ≡ readPrefix s c → at (times n readPrefix s l .value) i ≡ r .value
 listed-at s l n i c r b e f = times-at readPrefix s l n i noPrefix b ∙ rw (← e, ← f)
 
--- one prefix more is looked at
-pub has-more : (s : List ℕ) (start c : Cursor) (i : ℕ) (x : BasicPrefix) (r : Read BasicPrefix) (found same : Bool) → c ≡ times i readPrefix s start .next → r ≡ readPrefix s c → found ≡ has x (times i readPrefix s start .value) → same ≡ eqPrefix (r .value) x → (found || same) ≡ has x (times (i + 1) readPrefix s start .value)
-unfolding times has
-has-more s start c i x r found same e f g h =
-    rw (add-one, has-append x (times i readPrefix s start .value) (readPrefix s (times i readPrefix s start .next) .value ∷ []), ← e, ← f, ← g, ← h, or-false same)
+-- one prefix more is looked at, where it stands
+pub has-more : (s : List ℕ) (start c : Cursor) (i : ℕ) (x : BasicPrefix) (found same : Bool) → c ≡ times i readPrefix s start .next → found ≡ has x (times i readPrefix s start .value) → same ≡ eqMatter (readMatter s (c .at)) (x .0) → (found || same) ≡ has x (times (i + 1) readPrefix s start .value)
+unfolding times has readPrefix readIf
+has-more s start c i x found same e g h =
+    rw (add-one, has-append x (times i readPrefix s start .value) (readPrefix s (times i readPrefix s start .next) .value ∷ []), ← e, ← g, ← h, or-false same)
 
 -- whether a place breaks a rule, by what its element is held against
 pub breaks-is : (r : Rule) (l o : List BasicPrefix) (i : ℕ) → breaks r l o i ≡ cond (isMissing r) (not (has (at l i) (cond (isRepeat r) (take i l) o))) (has (at l i) (cond (isRepeat r) (take i l) o))
@@ -71,14 +71,15 @@ breaks-is CutAddOverlap l o i = refl
 breaks-is RemovalNotCurrent l o i = refl
 breaks-is AdditionAlreadyPresent l o i = refl
 
--- the same of a place in the bytes, whose element is held against n prefixes in the bytes, and for a repeat against those before it
-module _ (s : List ℕ) (rule : Rule) (repeat : Bool) (e : isRepeat rule ≡ repeat) (m : isMissing rule ≡ false) (l o : Cursor) (n : ℕ) (same : repeat ≡ true → o ≡ l) where
-  pub listed-breaks : (size i : ℕ) (c : Cursor) (r : Read BasicPrefix) (end : ℕ) (found : Bool) → i < size → c ≡ times i readPrefix s l .next → r ≡ readPrefix s c → end ≡ cond repeat i n → found ≡ has (r .value) (times end readPrefix s o .value) → breaks rule (times size readPrefix s l .value) (cond repeat [] (times n readPrefix s o .value)) i ≡ found
-  listed-breaks size i c r end found b f g h k =
-      breaks-is rule (times size readPrefix s l .value) (cond repeat [] (times n readPrefix s o .value)) i ∙ rw (m, e, listed-at s l size i c r b f g, k, h) (ap (has (r .value)) (go repeat same))
+-- the same of a place in the bytes, whose element is held against n prefixes in bytes, and for a repeat against those before it
+module _ (s u : List ℕ) (rule : Rule) (repeat missing : Bool) (e : isRepeat rule ≡ repeat) (m : isMissing rule ≡ missing) (l o : Cursor) (n : ℕ) (same : repeat ≡ true → (u ≡ s) × (o ≡ l)) where
+  pub listed-breaks : (size i : ℕ) (c : Cursor) (r : Read BasicPrefix) (end : ℕ) (found t : Bool) → i < size → c ≡ times i readPrefix s l .next → r ≡ readPrefix s c → end ≡ cond repeat i n → found ≡ has (r .value) (times end readPrefix u o .value) → t ≡ cond missing (not found) found → breaks rule (times size readPrefix s l .value) (cond repeat [] (times n readPrefix u o .value)) i ≡ t
+  listed-breaks size i c r end found t b f g h k q =
+      let w : has (r .value) (cond repeat (take i (times size readPrefix s l .value)) (cond repeat [] (times n readPrefix u o .value))) ≡ found = ap (has (r .value)) (go repeat same) ∙ rw (k, h) in
+      breaks-is rule (times size readPrefix s l .value) (cond repeat [] (times n readPrefix u o .value)) i ∙ rw (m, e, listed-at s l size i c r b f g, w, q)
     where
-      go : (t : Bool) → (t ≡ true → o ≡ l) → cond t (take i (times size readPrefix s l .value)) (cond t [] (times n readPrefix s o .value)) ≡ times (cond t i n) readPrefix s o .value
-      go true q = rw (q refl) (times-front readPrefix s l size i (omega arith))
+      go : (t : Bool) → (t ≡ true → (u ≡ s) × (o ≡ l)) → cond t (take i (times size readPrefix s l .value)) (cond t [] (times n readPrefix u o .value)) ≡ times (cond t i n) readPrefix u o .value
+      go true q = rw (q refl .0, q refl .1) (times-front readPrefix s l size i (omega arith))
       go false q = refl
 
 -- and of a place in the bytes, whose element is held against the current members

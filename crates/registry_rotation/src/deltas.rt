@@ -1,4 +1,4 @@
-// The rules on a rotation's lists, which stay in the bytes (docs/RULES.md, "Lists of backers").
+// The rules on lists of backers, which stay in the bytes (docs/RULES.md, "Lists of backers").
 use cesr::primitive::BasicPrefix;
 use codec::section::at_most_16;
 use codec_cursor::cursor::Cursor;
@@ -12,11 +12,11 @@ use events_tel::tel::Listed;
 ghost use mathlib.Core.Path.{_≡_};
 ghost use mathlib.Core.Bool.{true, false, cond};
 ghost use mathlib.Core.List.{[]};
-ghost use Rattle.events.specs.Members.{view, has, isRepeat, isMissing, check, checkDeltas, checkCurrent};
+ghost use Rattle.events.specs.Members.{view, has, isRepeat, isMissing, check, checkMembers, checkDeltas, checkCurrent};
 ghost use Rattle.events_tel.specs.TelEvents.{membersIn};
 ghost use Rattle.codec_cursor.specs.Readers.{readPrefix, times};
 
-// Whether x is among the n prefixes that stand from a cursor on.
+// Whether x is among the n prefixes that stand from a cursor on. Each is compared where it stands.
 pub fn found_in(s: &[u8], start: Cursor, n: usize, x: BasicPrefix) -> bool
     ensures { λ r. ⌜ r ≡ has x (times n readPrefix (now (s .entry)) start .value) ⌝ }
 {
@@ -24,18 +24,25 @@ pub fn found_in(s: &[u8], start: Cursor, n: usize, x: BasicPrefix) -> bool
     let mut found = false;
     let mut i: usize = 0;
     while i < n {
-        let p = c.prefix(s);
-        found = found | p.value.same(x);
-        c = p.next;
+        found = found | x.0.same_at(s, c.at);
+        c = c.pass_prefix(s);
         i += 1;
     }
     found
 }
 
-// A rule whose two lists are in the bytes. For a repeat they are the same.
-fn check_listed(s: &[u8], rule: Rule, list: Listed, other: Listed, repeat: bool) -> Membership
-    requires { ⌜ (isRepeat rule ≡ repeat) × (isMissing rule ≡ false) × (repeat ≡ true → other ≡ list) ⌝ }
-    ensures { λ r. ⌜ r ≡ check rule (membersIn (now (s .entry)) list) (cond repeat [] (membersIn (now (s .entry)) other)) ⌝ }
+// A rule whose two lists are in bytes, each in its own slice. For a repeat they are the same.
+fn check_listed(
+    s: &[u8],
+    rule: Rule,
+    list: Listed,
+    held: &[u8],
+    other: Listed,
+    repeat: bool,
+    missing: bool,
+) -> Membership
+    requires { ⌜ (isRepeat rule ≡ repeat) × (isMissing rule ≡ missing) × (repeat ≡ true → (now held ≡ now s) × (other ≡ list)) ⌝ }
+    ensures { λ r. ⌜ r ≡ check rule (membersIn (now (s .entry)) list) (cond repeat [] (membersIn (now (held .entry)) other)) ⌝ }
 {
     let n = at_most_16(list.count);
     let m = at_most_16(other.count);
@@ -44,7 +51,8 @@ fn check_listed(s: &[u8], rule: Rule, list: Listed, other: Listed, repeat: bool)
     while i < n {
         let p = c.prefix(s);
         let end = until(repeat, i, m);
-        if found_in(s, other.start, end, p.value) {
+        let found = found_in(held, other.start, end, p.value);
+        if differs(found, missing) {
             return Membership::Broken { rule, at: i };
         }
         c = p.next;
@@ -80,14 +88,52 @@ fn check_held(s: &[u8], rule: Rule, list: Listed, current: Members, missing: boo
     Membership::Sound
 }
 
+// No backer of a new registry stands twice.
+pub fn check_members(s: &[u8], backers: Listed) -> Membership
+    ensures { λ r. ⌜ r ≡ checkMembers (membersIn (now (s .entry)) backers) ⌝ }
+{
+    check_listed(s, Rule::DuplicateBacker, backers, s, backers, true, false)
+}
+
 // No cut stands twice, no addition stands twice, and no cut is added.
 pub fn check_deltas(s: &[u8], cuts: Listed, additions: Listed) -> Membership
     ensures { λ r. ⌜ r ≡ checkDeltas (membersIn (now (s .entry)) cuts) (membersIn (now (s .entry)) additions) ⌝ }
 {
-    let cut = check_listed(s, Rule::DuplicateCut, cuts, cuts, true);
-    let addition = check_listed(s, Rule::DuplicateAddition, additions, additions, true);
-    let overlap = check_listed(s, Rule::CutAddOverlap, cuts, additions, false);
+    let cut = check_listed(s, Rule::DuplicateCut, cuts, s, cuts, true, false);
+    let addition = check_listed(
+        s,
+        Rule::DuplicateAddition,
+        additions,
+        s,
+        additions,
+        true,
+        false,
+    );
+    let overlap = check_listed(s, Rule::CutAddOverlap, cuts, s, additions, false, false);
     or_else(cut, or_else(addition, overlap))
+}
+
+// Each cut is a current backer, and no addition is one. The current backers are in bytes too.
+pub fn check_current_in(
+    held: &[u8],
+    current: Listed,
+    s: &[u8],
+    cuts: Listed,
+    additions: Listed,
+) -> Membership
+    ensures { λ r. ⌜ r ≡ checkCurrent (membersIn (now (held .entry)) current) (membersIn (now (s .entry)) cuts) (membersIn (now (s .entry)) additions) ⌝ }
+{
+    let cut = check_listed(s, Rule::RemovalNotCurrent, cuts, held, current, false, true);
+    let addition = check_listed(
+        s,
+        Rule::AdditionAlreadyPresent,
+        additions,
+        held,
+        current,
+        false,
+        false,
+    );
+    or_else(cut, addition)
 }
 
 // Each cut is a current backer, and no addition is one.

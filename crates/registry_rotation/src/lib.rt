@@ -1,2 +1,2 @@
-// The rules on a rotation's lists, which stay in the attempt's bytes (docs/RULES.md, "Lists of backers").
+// The rules on lists of backers, which stay in the bytes (docs/RULES.md, "Lists of backers").
 pub mod deltas;

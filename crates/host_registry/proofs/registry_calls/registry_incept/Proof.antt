@@ -1,53 +1,57 @@
-use mathlib.Core.Path.{refl, ap, sym, _∙_}
+use mathlib.Core.Path.{sym, ap, _∙_}
 use denote.Ref.{now}
-use Rattle.registry_inception.specs.InceptionFolds.{Outcome, viewOutcome}
-use Rattle.host_next.specs.ByteFolds.{registryFolded, callOf}
+use Rattle.host_next.specs.ByteFolds.{Folded, callOf}
 use Rattle.host_next.proofs.Calls.{refused}
 use Rattle.host_registry.specs.RegistryByteFolds.{registryIncept}
+use Rattle.host_registry.proofs.InceptionCalls.{incepted-next, incept-answer}
 use borrow.Author.Needs.{needs}
 use Rattle.host_registry.proofs.registry_calls.registry_incept.Statement.{statement}
 use Rattle.host_registry.proofs.registry_calls.registry_incept.Tie as tie
 
-incept-with-evidence-requires : tie.Need-incept-with-evidence-requires
-incept-with-evidence-requires c κs = search needs
+incept-read-requires : tie.Need-incept-read-requires
+incept-read-requires c κs = search needs
 
 accepts-requires : tie.Need-accepts-requires
 accepts-requires c κs = search needs
 
-leave-registry-requires : tie.Need-leave-registry-requires
-leave-registry-requires c κs = search needs
+made-of-requires : tie.Need-made-of-requires
+made-of-requires c κs = search needs
+
+leave-next-requires : tie.Need-leave-next-requires
+leave-next-requires c κs = search needs
 
 same-length : tie.Need-same-length
 same-length c = search needs
 
 returns : tie.Need-returns
-unfolding registryIncept
 returns c =
-    let b2 = c .before .before in
-    let b7 = b2 .before .before .before .before .before in
-    let a = b7 .before .before .before .args in
-    b2 .leave-registry .ensures ∙ ap (λ (o : Outcome). callOf (registryFolded o) (now (a .next))) (b7 .incept-with-evidence .ensures .0)
+    let m = c .before .before .before .before .before in
+    let r = m .before .before .before in
+    let a = r .before .before .before .args in
+    let s = now (a .attempt) in
+    let h = sym (m .before .before .accepts .ensures) ∙ m .before .if1 .taken in
+    c .before .before .leave-next .ensures
+    ∙ ap (λ (f : Folded). callOf f (now (a .next))) (incepted-next s (r .incept-read .result) (r .incept-read .ensures) _ h (m .made-of .ensures s))
 
 report-answer-requires : tie.Need-report-answer-requires
 report-answer-requires c κs = search needs
 
 returns-2 : tie.Need-returns-2
-unfolding registryIncept
 returns-2 c =
     let b3 = c .before .before .before in
-    let b4 = b3 .before in
-    let a = b4 .before .before .before .args in
-    let o = viewOutcome (b4 .incept-with-evidence .result) in
-    refused (registryFolded o) (now (a .next)) (o .answer) _ _ refl (sym (b3 .accepts .ensures) ∙ c .before .before .if1 .left) (c .report-answer .ensures)
-    ∙ ap (λ (o : Outcome). callOf (registryFolded o) (now (a .next))) (b4 .incept-with-evidence .ensures .0)
+    let r = b3 .before in
+    let a = r .before .before .before .args in
+    let s = now (a .attempt) in
+    refused (registryIncept s) (now (a .next)) _ _ _ (incept-answer s (r .incept-read .result) (r .incept-read .ensures)) (sym (b3 .accepts .ensures) ∙ c .before .before .if1 .left) (c .report-answer .ensures)
 
 pub registry-incept-spec : {M : Type 1} → statement M
 registry-incept-spec =
     tie.close
     (tie.spec
-    incept-with-evidence-requires
+    incept-read-requires
     accepts-requires
-    leave-registry-requires
+    made-of-requires
+    leave-next-requires
     same-length
     returns
     report-answer-requires

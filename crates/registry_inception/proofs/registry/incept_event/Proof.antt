@@ -2,7 +2,7 @@ use Rattle.events_tel.specs.declared.tel.Kind.{Kind}
 use Rattle.events_tel.specs.TelEvents.{eventAs}
 use Rattle.registry_wire.specs.Attempts.{viewAttempt}
 use denote.Ref.{now}
-use mathlib.Core.Path.{sym, ap}
+use mathlib.Core.Path.{sym, ap, _∙_}
 use Rattle.registry_inception.specs.InceptionFolds.{inceptEvent}
 use borrow.Author.Needs.{needs}
 use Rattle.registry_inception.proofs.registry.incept_event.Statement.{statement}
@@ -32,7 +32,7 @@ enum-told-6 c = search needs
 returns : tie.Need-returns
 returns c =
     let z = c .before .before .before .before .before .args in
-    rw (c .vcp-answer .ensures, c .before .before .before .before .before .pre .1) (sym (ap (λ (k : Kind). inceptEvent (eventAs (now (z .s)) k (z .a .event)) (viewAttempt (now (z .s)) (z .a))) (c .before .enum-told .given .1)))
+    c .vcp-answer .ensures ∙ sym (ap (λ (k : Kind). inceptEvent (eventAs (now (z .s)) k (z .a .event)) (viewAttempt (now (z .s)) (z .a))) (c .before .enum-told .given .1))
 
 returns-2 : tie.Need-returns-2
 returns-2 c = rw (c .enum-told2 .given .1)

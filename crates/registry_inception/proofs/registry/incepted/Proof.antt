@@ -1,3 +1,4 @@
+use Rattle.registry_inception.specs.InceptionFolds.{inceptedAt}
 use borrow.Author.Needs.{needs}
 use Rattle.registry_inception.proofs.registry.incepted.Statement.{statement}
 use Rattle.registry_inception.proofs.registry.incepted.Tie as tie
@@ -11,10 +12,15 @@ read-requires-2 c κs = search needs
 trimmed-requires : tie.Need-trimmed-requires
 trimmed-requires c κs = search needs
 
+members-in-requires : tie.Need-members-in-requires
+members-in-requires c κs = search needs
+
 returns : tie.Need-returns
+unfolding inceptedAt
 returns c =
     let b3 = c .before .before .before in
-    ((λ e k. rw (k, ← e, c .trimmed .ensures .0, c .before .before .read2 .ensures, b3 .read .ensures)), (c .trimmed .ensures .1, b3 .before .before .pre))
+    (rw (c .members-in .ensures .0, c .before .trimmed .ensures .0, b3 .read2 .ensures, b3 .before .read .ensures), (c .before .trimmed .ensures .1, c .members-in .ensures .1))
 
 pub incepted-spec : {M : Type 1} → statement M
-incepted-spec = tie.close (tie.spec read-requires read-requires-2 trimmed-requires returns)
+incepted-spec =
+    tie.close (tie.spec read-requires read-requires-2 trimmed-requires members-in-requires returns)

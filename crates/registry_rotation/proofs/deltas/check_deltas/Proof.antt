@@ -6,10 +6,10 @@ use Rattle.registry_rotation.proofs.deltas.check_deltas.Statement.{stat
 use Rattle.registry_rotation.proofs.deltas.check_deltas.Tie as tie
 
 check-listed-requires : tie.Need-check-listed-requires
-check-listed-requires c κs = (refl, refl, λ e. refl)
+check-listed-requires c κs = (refl, refl, λ e. (refl, refl))
 
 check-listed-requires-2 : tie.Need-check-listed-requires-2
-check-listed-requires-2 c κs = (refl, refl, λ e. refl)
+check-listed-requires-2 c κs = (refl, refl, λ e. (refl, refl))
 
 check-listed-requires-3 : tie.Need-check-listed-requires-3
 check-listed-requires-3 c κs = (refl, refl, λ e. absurd (false≢true e))

@@ -17,20 +17,20 @@ use Rattle.registry_rotation.proofs.deltas.check_listed.Statement.{stat
 use Rattle.registry_rotation.proofs.deltas.check_listed.Tie as tie
 
 abbrev Inv-loop : tie.InvT-loop
-Inv-loop s rule other repeat n m c₀ i₀ c i =
+Inv-loop s rule held other repeat missing n m c₀ i₀ c i =
     (i ≤ n)
     × (c ≡ times i readPrefix s c₀ .next)
-    × ((k : ℕ) → k < i → breaks rule (times n readPrefix s c₀ .value) (cond repeat [] (times m readPrefix s (other .start) .value)) k ≡ false)
+    × ((k : ℕ) → k < i → breaks rule (times n readPrefix s c₀ .value) (cond repeat [] (times m readPrefix held (other .start) .value)) k ≡ false)
 
 abbrev μ-loop : tie.MeasureT-loop
-μ-loop s rule other repeat n m c₀ i₀ c i = n - i
+μ-loop s rule held other repeat missing n m c₀ i₀ c i = n - i
 
 -- whether the place breaks the rule is what was found
-place : (c : tie.After-found-in Inv-loop μ-loop) → breaks (c .before .before .before .before .before .before .before .before .before .args .rule) (times (c .before .before .before .before .before .before .before .at-most-16 .result) readPrefix (now (c .before .before .before .before .before .before .before .before .before .args .s)) (c .before .before .before .before .before .before .before .before .before .args .list .start) .value) (cond (c .before .before .before .before .before .before .before .before .before .args .repeat) [] (times (c .before .before .before .before .before .before .at-most-162 .result) readPrefix (now (c .before .before .before .before .before .before .before .before .before .args .s)) (c .before .before .before .before .before .before .before .before .before .args .other .start) .value)) (c .before .before .before .before .loop .i) ≡ c .found-in .result
+place : (c : tie.After-differs Inv-loop μ-loop) → breaks (c .before .before .before .before .before .before .before .before .before .before .before .args .rule) (times (c .before .before .before .before .before .before .before .before .at-most-16 .result) readPrefix (now (c .before .before .before .before .before .before .before .before .before .before .before .args .s)) (c .before .before .before .before .before .before .before .before .before .before .before .args .list .start) .value) (cond (c .before .before .before .before .before .before .before .before .before .before .before .args .repeat) [] (times (c .before .before .before .before .before .before .before .at-most-162 .result) readPrefix (now (c .before .before .before .before .before .before .before .before .before .before .before .args .held)) (c .before .before .before .before .before .before .before .before .before .before .before .args .other .start) .value)) (c .before .before .before .before .before .loop .i) ≡ c .differs .result
 place c =
-    let l = c .before .before .before .before .loop in
-    let z = c .before .before .before .before .before .before .before .before .before in
-    listed-breaks (now (z .args .s)) _ _ (z .pre .0) (z .pre .1) _ _ _ (λ e. ap (λ (x : Listed). x .start) (z .pre .2 e)) _ (l .i) _ _ _ _ (omega arith) (l .inv .1) (c .before .before .prefix .ensures) (c .before .until .ensures) (c .found-in .ensures)
+    let l = c .before .before .before .before .before .loop in
+    let z = c .before .before .before .before .before .before .before .before .before .before .before in
+    listed-breaks (now (z .args .s)) (now (z .args .held)) _ _ _ (z .pre .0) (z .pre .1) _ _ _ (λ e. (z .pre .2 e .0, ap (λ (x : Listed). x .start) (z .pre .2 e .1))) _ (l .i) _ _ _ _ _ (omega arith) (l .inv .1) (c .before .before .before .prefix .ensures) (c .before .before .until .ensures) (c .before .found-in .ensures) (c .differs .ensures)
 
 at-most-16-requires : tie.Need-at-most-16-requires Inv-loop μ-loop
 at-most-16-requires c κs = search needs
@@ -51,13 +51,16 @@ until-requires c κs = search needs
 found-in-requires : tie.Need-found-in-requires Inv-loop μ-loop
 found-in-requires c κs = search needs
 
+differs-requires : tie.Need-differs-requires Inv-loop μ-loop
+differs-requires c κs = search needs
+
 returns : tie.Need-returns Inv-loop μ-loop
 returns c =
-    let l = c .before .before .before .before .before .loop in
-    let b2 = c .before .before .before .before .before .before .before in
+    let l = c .before .before .before .before .before .before .loop in
+    let b2 = c .before .before .before .before .before .before .before .before in
     let b1 = b2 .before in
-    let z = b1 .before .before .args in
-    rw (all-listed (now (z .s)) (z .list) _ (b1 .at-most-16 .ensures), all-listed (now (z .s)) (z .other) _ (b2 .at-most-162 .ensures))
+    let z = b1 .before .before .before .args in
+    rw (all-listed (now (z .s)) (z .list) _ (b1 .at-most-16 .ensures), all-listed (now (z .held)) (z .other) _ (b2 .at-most-162 .ensures))
     (sym (check-found _ _ _ (l .i) (rw (length-times readPrefix (now (z .s)) (z .list .start) (b1 .at-most-16 .result)) (omega arith)) (l .inv .2) (place (c .before) ∙ c .if1 .taken)))
 
 add-i : tie.Need-add-i Inv-loop μ-loop
@@ -68,7 +71,7 @@ loop-less c = search needs
 
 loop-again : tie.Need-loop-again Inv-loop μ-loop
 loop-again c =
-    let p = c .before .before .before .before in
+    let p = c .before .before .before .before .before in
     let l = p .before .before .loop in (
       search needs,
       times-next readPrefix _ _ _ _ _ (l .inv .1) (p .prefix .ensures),
@@ -80,8 +83,8 @@ returns-2 c =
     let l = c .before .loop in
     let b2 = c .before .before .before in
     let b1 = b2 .before in
-    let z = b1 .before .before .args in
-    rw (all-listed (now (z .s)) (z .list) _ (b1 .at-most-16 .ensures), all-listed (now (z .s)) (z .other) _ (b2 .at-most-162 .ensures))
+    let z = b1 .before .before .before .args in
+    rw (all-listed (now (z .s)) (z .list) _ (b1 .at-most-16 .ensures), all-listed (now (z .held)) (z .other) _ (b2 .at-most-162 .ensures))
     (sym (all-sound _ _ _ (λ k h. l .inv .2 k (omega (arith, length-times readPrefix (now (z .s)) (z .list .start) (b1 .at-most-16 .result))))))
 
 pub check-listed-spec : {M : Type 1} → statement M
@@ -96,6 +99,7 @@ check-listed-spec =
     prefix-requires
     until-requires
     found-in-requires
+    differs-requires
     returns
     add-i
     loop-less

@@ -1,0 +1,150 @@
+-- Lists of prefixes, copied from where they stand.
+--     survivors-kept, survivors-cut    one member more is looked at, and is not cut, or is
+--     count-kept, count-cut            how many survive then
+--     survivors-grow     no fewer survive of more members
+--     member-more        a prefix more is stored behind others
+--     survivor-next      the same of a survivor that a loop looks at
+--     member-next        the same of a prefix that a loop passes
+--     backers-sets       one list behind another
+--     length-next        how many members there are then
+--     few-survive, few-added           at most 16 of each
+--     size-next          how many bytes a next state has
+--     next-sets          its bytes, in the two parts that they are stored in
+--     member-bytes       the bytes of a prefix that is read are those of the primitive at its place
+use Prim.Native.Nat.{ℕ, zero, suc, _+_, _*_, _≤_, min}
+use mathlib.Core.Path.{_≡_, refl, ap, sym, _∙_}
+use mathlib.Core.Bool.{Bool, true, false, cond}
+use mathlib.Core.List.{List, [], _∷_, _++_}
+use native.Mathlib.Omega.{arith}
+use native.Mathlib.Numerals.{add-one}
+use native.Mathlib.Decide.{ℕ-discrete}
+use lib.ListN.{length, length-append}
+use lib.Seq.{sets, length-sets}
+use Rattle.laws.specs.Room.{put}
+use Rattle.laws.proofs.Room.{put-sets, sets-append}
+use Rattle.cesr.specs.declared.primitive.BasicPrefix.{BasicPrefix}
+use Rattle.cesr.specs.Primitives.{readMatter, matterBytes}
+use Rattle.cesr.proofs.Matters.{length-matter}
+use Rattle.events.specs.Members.{has}
+use Rattle.events_tel.specs.declared.tel.Listed.{Listed}
+use Rattle.events_tel.specs.Configs.{viewConfigs}
+use Rattle.events_tel.specs.TelEvents.{membersIn}
+use Rattle.codec_cursor.specs.declared.cursor.Cursor.{Cursor}
+use Rattle.codec_cursor.specs.Readers.{Read, readIf, readPrefix, times}
+use Rattle.codec.specs.Layout.{joined, sectionBytes, prefixBytes}
+use Rattle.codec.proofs.Loops.{length-times}
+use Rattle.codec_laws.proofs.CodesList.{joined-append, joined-snoc}
+use Rattle.registry_bytes.proofs.StateWrites.{length-backers, length-front, length-state, state-front}
+use Rattle.registry_bytes.specs.StateBytes.{frontBytes}
+use Rattle.registry_members.specs.Updated.{survivors, updatedMembers}
+use Rattle.registry_members.proofs.Survivors.{survivors-snoc, survivors-fewer}
+use Rattle.registry_copy.specs.declared.next.NextState.{NextState}
+use Rattle.registry_copy.specs.NextStates.{nextMembers, nextBytes}
+
+module _ (cuts : List BasicPrefix) (s : List ℕ) (start : Cursor) where
+  abbrev left : ℕ → List BasicPrefix
+  left i = survivors cuts (times i readPrefix s start .value)
+
+  module _ (i : ℕ) (c : Cursor) (r : Read BasicPrefix) (t : Bool) (e : c ≡ times i readPrefix s start .next) (f : r ≡ readPrefix s c) (g : t ≡ has (r .value) cuts) where
+    more : left (i + 1) ≡ cond t (left i) (left i ++ (r .value ∷ []))
+    unfolding times
+    more = rw (add-one, ← e, ← f, g) (survivors-snoc cuts (times i readPrefix s start .value) (r .value))
+
+    pub survivors-kept : t ≡ false → left (i + 1) ≡ left i ++ (r .value ∷ [])
+    survivors-kept h = more ∙ rw h
+
+    pub survivors-cut : t ≡ true → left (i + 1) ≡ left i
+    survivors-cut h = more ∙ rw h
+
+    pub count-kept : (n : ℕ) → n ≡ length (left i) → t ≡ false → n + 1 ≡ length (left (i + 1))
+    count-kept n q h = rw (survivors-kept h, length-append, q)
+
+    pub count-cut : (n : ℕ) → n ≡ length (left i) → t ≡ true → n ≡ length (left (i + 1))
+    count-cut n q h = rw (survivors-cut h) q
+
+  pub survivors-grow : (n i : ℕ) → i ≤ n → length (left i) ≤ length (left n)
+  unfolding times
+  survivors-grow zero zero b = omega arith
+  survivors-grow zero (suc i) b = absurd (omega arith)
+  survivors-grow (suc n) i b = go (ℕ-discrete i (suc n)) (survivors-grow n i)
+    where
+      x : BasicPrefix
+      x = readPrefix s (times n readPrefix s start .next) .value
+
+      more : (t : Bool) → length (left n) ≤ length (cond t (left n) (left n ++ (x ∷ [])))
+      more true = omega arith
+      more false = rw length-append (omega arith)
+
+      go : Dec (i ≡ suc n) → (i ≤ n → length (left i) ≤ length (left n)) → length (left i) ≤ length (left (suc n))
+      go (yes e) less = rw e (omega arith)
+      go (no d) less =
+          let h = more (has x cuts) in
+          let k = less (omega arith) in
+          rw (survivors-snoc cuts (times n readPrefix s start .value) x) (omega arith)
+
+length-members : (l : List BasicPrefix) → length (joined prefixBytes l) ≡ 33 * length l
+unfolding sectionBytes
+length-members l = omega (arith, length-backers l)
+
+pub member-more : (b : List ℕ) (at : ℕ) (l : List BasicPrefix) (k : ℕ) (x : BasicPrefix) → k ≡ at + 33 * length l → k + 33 ≤ length b → put (sets b at (joined prefixBytes l)) k (prefixBytes x) ≡ sets b at (joined prefixBytes (l ++ (x ∷ [])))
+member-more b at l k x e h =
+    put-sets (sets b at (joined prefixBytes l)) k 33 (prefixBytes x) (length-matter (x .0)) (rw length-sets h)
+    ∙ rw (joined-snoc prefixBytes l x, sets-append, length-members l, e)
+
+pub member-bytes : (s : List ℕ) (c : Cursor) (r : Read BasicPrefix) → r ≡ readPrefix s c → matterBytes (readMatter s (c .at)) ≡ prefixBytes (r .value)
+unfolding readPrefix readIf
+member-bytes s c r e = rw e
+
+-- a survivor that a loop looks at
+pub survivor-next : (cuts : List BasicPrefix) (s : List ℕ) (start : Cursor) (i : ℕ) (c : Cursor) (r : Read BasicPrefix) (t : Bool) → c ≡ times i readPrefix s start .next → r ≡ readPrefix s c → t ≡ has (r .value) cuts → (b : List ℕ) (n : ℕ) → n ≡ length (left cuts s start i) → t ≡ false → 1 + 33 * n + 33 ≤ length b → put (sets b 1 (joined prefixBytes (left cuts s start i))) (1 + 33 * n) (matterBytes (readMatter s (c .at))) ≡ sets b 1 (joined prefixBytes (left cuts s start (i + 1)))
+survivor-next cuts s start i c r t e f g b n q h room =
+    rw (member-bytes s c r f, survivors-kept cuts s start i c r t e f g h)
+    (member-more b 1 (left cuts s start i) (1 + 33 * n) (r .value) (omega arith) room)
+
+-- a prefix that a loop passes
+pub member-next : (s : List ℕ) (start : Cursor) (b : List ℕ) (at i : ℕ) (c : Cursor) → c ≡ times i readPrefix s start .next → at + 33 * i + 33 ≤ length b → put (sets b at (joined prefixBytes (times i readPrefix s start .value))) (at + 33 * i) (matterBytes (readMatter s (c .at))) ≡ sets b at (joined prefixBytes (times (i + 1) readPrefix s start .value))
+unfolding times
+member-next s start b at i c e h =
+    let l = times i readPrefix s start .value in
+    let k : at + 33 * i ≡ at + 33 * length l = omega (arith, length-times readPrefix s start i) in
+    rw (member-bytes s c (readPrefix s c) refl, member-more b at l (at + 33 * i) (readPrefix s c .value) k h, add-one, e)
+
+pub backers-sets : (b : List ℕ) (u v : List BasicPrefix) → sets (sets b 1 (joined prefixBytes u)) (1 + 33 * length u) (joined prefixBytes v) ≡ sets b 1 (joined prefixBytes (u ++ v))
+backers-sets b u v = rw (joined-append prefixBytes u v, sets-append, length-members u)
+
+length-listed : (s : List ℕ) (l : Listed) → length (membersIn s l) ≡ min (l .count) 16
+unfolding membersIn
+length-listed s l = length-times readPrefix s (l .start) (min (l .count) 16)
+
+pub few-added : (s : List ℕ) (l : Listed) (n : ℕ) → n ≡ min (l .count) 16 → (n ≡ length (membersIn s l)) × (n ≤ 16)
+few-added s l n e = (e ∙ sym (length-listed s l), omega arith)
+
+module _ (held s : List ℕ) (p : NextState) where
+  pub few-survive : (n : ℕ) → n ≡ length (survivors (membersIn s (p .cuts)) (membersIn held (p .current))) → n ≤ 16
+  few-survive n e = omega (arith, survivors-fewer (membersIn s (p .cuts)) (membersIn held (p .current)), length-listed held (p .current))
+
+  pub length-next : length (nextMembers held s p) ≡ length (survivors (membersIn s (p .cuts)) (membersIn held (p .current))) + length (membersIn s (p .additions))
+  unfolding nextMembers updatedMembers
+  length-next = length-append (survivors (membersIn s (p .cuts)) (membersIn held (p .current))) (membersIn s (p .additions))
+
+  abbrev front : List ℕ
+  front = frontBytes (readMatter held (p .id)) (readMatter held (p .issuer)) (p .sn) (readMatter s (p .latest)) (p .toad .0) (viewConfigs (p .configs))
+
+  pub size-next : length (nextBytes held s p) ≡ 121 + length (viewConfigs (p .configs)) + 33 * length (nextMembers held s p)
+  unfolding nextBytes
+  size-next =
+      length-state (readMatter held (p .id)) (readMatter held (p .issuer)) (p .sn) (readMatter s (p .latest)) (p .toad .0) (viewConfigs (p .configs)) (nextMembers held s p)
+
+  front-next : length front ≡ 120 + length (viewConfigs (p .configs))
+  front-next =
+      length-front (readMatter held (p .id)) (readMatter held (p .issuer)) (p .sn) (readMatter s (p .latest)) (p .toad .0) (viewConfigs (p .configs))
+
+  pub next-sets : (b : List ℕ) (k : ℕ) → k ≡ 120 + length (viewConfigs (p .configs)) → k ≤ length b → sets (put b 0 front) k (sectionBytes prefixBytes (nextMembers held s p)) ≡ sets b 0 (nextBytes held s p)
+  unfolding nextBytes
+  next-sets b k e h =
+      let section = sectionBytes prefixBytes (nextMembers held s p) in
+      let g : k ≡ 0 + length front = omega (arith, front-next) in
+      ap (λ (m : List ℕ). sets m k section) (put-sets b 0 k front (front-next ∙ sym e) (omega arith))
+      ∙ ap (λ (j : ℕ). sets (sets b 0 front) j section) g
+      ∙ sym (sets-append b 0 front section)
+      ∙ ap (sets b 0) (sym (state-front (readMatter held (p .id)) (readMatter held (p .issuer)) (p .sn) (readMatter s (p .latest)) (p .toad .0) (viewConfigs (p .configs)) (nextMembers held s p)))
