@@ -1,11 +1,13 @@
 -- What an accepted chain of checks says of each of them.
 --     or-first, or-second   both parts accept
 --     passed                a check that accepts has a test that holds
--- What a chain of checks answers, by its first.
---     or-passes, or-refuses          of two checks
---     first-holds, first-fails       by a test
---     first-passes, first-refuses    by a check
---     first-last                     by the last check
+-- What checks made one after the other come to, where each that refuses is returned.
+--     first-refused, first-failed     the first that refuses decides
+--     first-accepted, first-passed    one that accepts gives way to the rest
+--     first-last                      the last decides by itself
+-- The same of a check that was answered, by the test whether it accepts.
+--     or-passes, or-refuses           of two checks
+--     first-passes, first-refuses     of a chain
 use mathlib.Core.Path.{_≡_, refl, ap, sym, _∙_}
 use mathlib.Core.List.{List, [], _∷_}
 use mathlib.Core.Bool.{Bool, true, false, false≢true}
@@ -27,15 +29,29 @@ unfolding acceptIf
 passed true r h = refl
 passed false r h = h
 
-pub first-holds : (t : Bool) (r : RegistryRejection) (l : List Answer) → t ≡ true → firstOf (acceptIf t r ∷ l) ≡ firstOf l
-unfolding firstOf acceptIf
-first-holds t r l h = rw h
+pub first-refused : (x : Answer) (l : List Answer) → accepts x ≡ false → firstOf (x ∷ l) ≡ x
+unfolding firstOf
+first-refused Accepted l h = absurd (false≢true (sym h))
+first-refused (Rejected r) l h = refl
 
-pub first-fails : (t : Bool) (r : RegistryRejection) (l : List Answer) → t ≡ false → firstOf (acceptIf t r ∷ l) ≡ Rejected r
-unfolding firstOf acceptIf
-first-fails t r l h = rw h
+pub first-accepted : (x : Answer) (l : List Answer) → accepts x ≡ true → firstOf (x ∷ l) ≡ firstOf l
+unfolding firstOf
+first-accepted Accepted l h = refl
+first-accepted (Rejected r) l h = absurd (false≢true h)
 
--- of two checks, by the first, which was answered, and by the test whether it accepts
+pub first-failed : (t : Bool) (r : RegistryRejection) (l : List Answer) → t ≡ false → firstOf (acceptIf t r ∷ l) ≡ Rejected r
+unfolding firstOf acceptIf
+first-failed t r l h = rw h
+
+pub first-passed : (t : Bool) (r : RegistryRejection) (l : List Answer) → t ≡ true → firstOf (acceptIf t r ∷ l) ≡ firstOf l
+unfolding firstOf acceptIf
+first-passed t r l h = rw h
+
+pub first-last : (x : Answer) → firstOf (x ∷ []) ≡ x
+unfolding firstOf
+first-last Accepted = refl
+first-last (Rejected r) = refl
+
 pub or-passes : (x y z : Answer) (t : Bool) → x ≡ y → t ≡ accepts x → t ≡ true → orElse y z ≡ z
 or-passes x Accepted z t e f h = refl
 or-passes x (Rejected r) z t e f h = absurd (false≢true (sym (f ∙ ap accepts e) ∙ h))
@@ -44,7 +60,6 @@ pub or-refuses : (x y z : Answer) (t : Bool) → x ≡ y → t ≡ accepts x →
 or-refuses x Accepted z t e f h = absurd (false≢true (sym h ∙ (f ∙ ap accepts e)))
 or-refuses x (Rejected r) z t e f h = sym e
 
--- and so of a chain
 pub first-passes : (x y : Answer) (l : List Answer) (t : Bool) → x ≡ y → t ≡ accepts x → t ≡ true → firstOf (y ∷ l) ≡ firstOf l
 unfolding firstOf
 first-passes x y l t e f h = or-passes x y (firstOf l) t e f h
@@ -52,8 +67,3 @@ first-passes x y l t e f h = or-passes x y (firstOf l) t e f h
 pub first-refuses : (x y : Answer) (l : List Answer) (t : Bool) → x ≡ y → t ≡ accepts x → t ≡ false → firstOf (y ∷ l) ≡ x
 unfolding firstOf
 first-refuses x y l t e f h = or-refuses x y (firstOf l) t e f h
-
-pub first-last : (x : Answer) → firstOf (x ∷ []) ≡ x
-unfolding firstOf
-first-last Accepted = refl
-first-last (Rejected r) = refl

@@ -25,7 +25,7 @@ use Rattle.registry_error.specs.declared.error.RegistryRejection.the-variants.{
 use Rattle.registry_error.specs.declared.error.Answer.{Answer}
 use Rattle.registry_error.specs.declared.error.Answer.the-variants.{Rejected}
 use Rattle.registry_answer.specs.Answers.{acceptIf, backerSet, firstOf}
-use Rattle.registry_answer.proofs.AnswerLaws.{first-holds, first-fails}
+use Rattle.registry_answer.proofs.AnswerLaws.{first-passed, first-failed}
 use Rattle.registry_authentication.specs.Issuers.{namesIssuer, anchored}
 use Rattle.registry_authentication.proofs.EvidenceLaws.{no-issuer}
 use Rattle.registry_backer.specs.Backers.{enoughReceipts}
@@ -73,18 +73,18 @@ module _ (s : List ℕ) (a : Attempt) where
 
     pub unnamed : (eqb (a .evidence) 1 && t) ≡ false → Rejected InconsistentIssuer ≡ vcpOf
     unfolding vcpAnswer
-    unnamed h = sym (first-fails (namesIssuer (evidenceIn s a) (readMatter s (a .event .issuer))) InconsistentIssuer clash (names ∙ h))
+    unnamed h = sym (first-failed (namesIssuer (evidenceIn s a) (readMatter s (a .event .issuer))) InconsistentIssuer clash (names ∙ h))
 
     pub named : (eqb (a .evidence) 1 && t) ≡ true → vcpOf ≡ firstOf clash
     unfolding vcpAnswer
-    named h = first-holds (namesIssuer (evidenceIn s a) (readMatter s (a .event .issuer))) InconsistentIssuer clash (names ∙ h)
+    named h = first-passed (namesIssuer (evidenceIn s a) (readMatter s (a .event .issuer))) InconsistentIssuer clash (names ∙ h)
 
   module _ (t : Bool) (n : ℕ) (e : t ≡ noBackers (viewConfigs (a .event .configs))) (f : n ≡ min (a .event .backers .count) 16) where
     clash-is : (noBackers (viewConfigs (a .event .configs)) && not (eqb backers 0)) ≡ (t && not (eqb n 0))
     clash-is = rw (e, listed-size s a n f)
 
     pub clashes : (t && not (eqb n 0)) ≡ true → firstOf clash ≡ Rejected NoBackersWithBackers
-    clashes h = first-fails _ NoBackersWithBackers members (ap not (clash-is ∙ h))
+    clashes h = first-failed _ NoBackersWithBackers members (ap not (clash-is ∙ h))
 
     pub agrees : (t && not (eqb n 0)) ≡ false → firstOf clash ≡ firstOf members
-    agrees h = first-holds _ NoBackersWithBackers members (ap not (clash-is ∙ h))
+    agrees h = first-passed _ NoBackersWithBackers members (ap not (clash-is ∙ h))

@@ -88,7 +88,7 @@ fn check_held(s: &[u8], rule: Rule, list: Listed, current: Members, missing: boo
     Membership::Sound
 }
 
-// No backer of a new registry stands twice.
+// No backer stands twice.
 pub fn check_members(s: &[u8], backers: Listed) -> Membership
     ensures { λ r. ⌜ r ≡ checkMembers (membersIn (now (s .entry)) backers) ⌝ }
 {

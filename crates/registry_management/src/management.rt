@@ -1,0 +1,115 @@
+// A registry's state in two parts: all but its backers, and what its backers come to where they are an authority's. A list is copied at every call, and no rule on a credential's events looks into one but that on repeats.
+use cesr::number::Sn;
+use cesr::primitive::Matter;
+use cesr::primitive::Said;
+use codec::section::at_most_16;
+use codec::section::pass_prefixes;
+use codec::section::read_configs;
+use codec_cursor::cursor::Cursor;
+use events::member_set::MemberSet;
+use events::member_set::Members;
+use events::member_set::Membership;
+use events_tel::config::Configs;
+use events_tel::tel::Listed;
+use events_toad::toad::Toad;
+use registry_rotation::deltas::check_members;
+use registry_state::state::RegistryState;
+ghost use mathlib.Core.Path.{_≡_};
+ghost use Rattle.events.specs.Members.{view};
+ghost use Rattle.events_tel.specs.TelEvents.{membersIn};
+ghost use Rattle.registry_state.specs.States.{viewRegistry, readRegistry};
+ghost use Rattle.registry_management.specs.Managements.{viewManagement, viewManagementRead, Backs};
+
+// All of a registry's state but its backers.
+pub struct Management {
+    pub id: Said,
+    // An identifier.
+    pub issuer: Matter,
+    pub sn: Sn,
+    // The digest of the last event.
+    pub latest: Said,
+    pub toad: Toad,
+    pub configs: Configs,
+}
+
+// What a list of backers comes to: whether one stands twice, and how many there are.
+pub struct Backing {
+    pub members: Membership,
+    pub count: usize,
+}
+
+// The backers stay in the bytes.
+pub struct ManagementRead {
+    pub value: Management,
+    pub backers: Listed,
+    pub next: Cursor,
+}
+
+pub fn management_of(g: RegistryState) -> Management
+    ensures { λ r. ⌜ viewManagement r (view (g .backers)) ≡ viewRegistry g ⌝ }
+{
+    let id = g.id;
+    let issuer = g.issuer;
+    let sn = g.sn;
+    let latest = g.latest;
+    let toad = g.toad;
+    let configs = g.configs;
+    Management {
+        id,
+        issuer,
+        sn,
+        latest,
+        toad,
+        configs,
+    }
+}
+
+pub fn backing_of(backers: Members) -> Backing
+    ensures { λ r. ⌜ Backs r (view backers) ⌝ }
+{
+    let members = MemberSet::check_members(backers);
+    let count = backers.size();
+    Backing { members, count }
+}
+
+// The same of a state in bytes, which is held to its layout as a whole.
+pub fn read_management(c: Cursor, s: &[u8]) -> ManagementRead
+    ensures { λ r. ⌜ viewManagementRead (now (s .entry)) r ≡ readRegistry (now (s .entry)) c ⌝ }
+{
+    let id = c.said(s);
+    let issuer = id.next.identifier(s);
+    let sn = issuer.next.sn(s);
+    let latest = sn.next.said(s);
+    let toad = latest.next.quad(s);
+    let configs = read_configs(toad.next, s);
+    let listed = pass_prefixes(configs.next, s);
+    let backers = listed.value;
+    let next = listed.next;
+    let id = id.value;
+    let issuer = issuer.value;
+    let sn = sn.value;
+    let latest = latest.value;
+    let toad = Toad::from_wire(toad.value);
+    let configs = configs.value;
+    let value = Management {
+        id,
+        issuer,
+        sn,
+        latest,
+        toad,
+        configs,
+    };
+    ManagementRead {
+        value,
+        backers,
+        next,
+    }
+}
+
+pub fn backing_in(s: &[u8], backers: Listed) -> Backing
+    ensures { λ r. ⌜ Backs r (membersIn (now (s .entry)) backers) ⌝ }
+{
+    let members = check_members(s, backers);
+    let count = at_most_16(backers.count);
+    Backing { members, count }
+}
