@@ -1,4 +1,4 @@
-// The same of a credential state, which has 115 bytes.
+// A fold's next credential state, which has 115 bytes, goes to the start of a lent buffer, where the fold accepts and its bytes find room.
 use host_parts::part::fitted;
 use host_report::report::report_sized;
 use registry_answer::answer::accepts;

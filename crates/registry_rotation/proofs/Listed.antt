@@ -11,10 +11,10 @@ use mathlib.Core.List.{List, [], _∷_}
 use native.Mathlib.Omega.{arith}
 use native.Mathlib.Numerals.{add-one}
 use native.Mathlib.Decide.{ℕ-discrete}
-use lib.ListN.{length, take, getD, length-append, List·getD-append}
+use lib.ListN.{take, getD, List·getD-append}
 use lib.Seq.{take-all, take-append-le, getD-at}
 use Rattle.cesr.specs.declared.primitive.BasicPrefix.{BasicPrefix}
-use Rattle.cesr.specs.Primitives.{readMatter, eqMatter}
+use Rattle.cesr.specs.Primitives.{eqPrefix}
 use Rattle.events.specs.declared.member_set.Rule.{Rule}
 use Rattle.events.specs.declared.member_set.Rule.the-variants.{DuplicateBacker, DuplicateCut, DuplicateAddition, CutAddOverlap, RemovalNotCurrent, AdditionAlreadyPresent}
 use Rattle.events.specs.Members.{at, noPrefix, has, breaks, isRepeat, isMissing}
@@ -23,7 +23,7 @@ use Rattle.events_tel.specs.declared.tel.Listed.{Listed}
 use Rattle.events_tel.specs.TelEvents.{membersIn}
 use Rattle.codec_cursor.specs.declared.cursor.Cursor.{Cursor}
 use Rattle.codec.proofs.Loops.{length-times}
-use Rattle.codec_cursor.specs.Readers.{Read, Reader, readIf, readPrefix, times}
+use Rattle.codec_cursor.specs.Readers.{Read, Reader, readPrefix, times}
 
 module _ {A : Type 0} (p : Reader A) (s : List ℕ) (c : Cursor) where
   -- fewer elements are the first of more
@@ -55,11 +55,11 @@ all-listed s l n e = rw e
 pub listed-at : (s : List ℕ) (l : Cursor) (n i : ℕ) (c : Cursor) (r : Read BasicPrefix) → i < n → c ≡ times i readPrefix s l .next → r ≡ readPrefix s c → at (times n readPrefix s l .value) i ≡ r .value
 listed-at s l n i c r b e f = times-at readPrefix s l n i noPrefix b ∙ rw (← e, ← f)
 
--- one prefix more is looked at, where it stands
-pub has-more : (s : List ℕ) (start c : Cursor) (i : ℕ) (x : BasicPrefix) (found same : Bool) → c ≡ times i readPrefix s start .next → found ≡ has x (times i readPrefix s start .value) → same ≡ eqMatter (readMatter s (c .at)) (x .0) → (found || same) ≡ has x (times (i + 1) readPrefix s start .value)
-unfolding times has readPrefix readIf
-has-more s start c i x found same e g h =
-    rw (add-one, has-append x (times i readPrefix s start .value) (readPrefix s (times i readPrefix s start .next) .value ∷ []), ← e, ← g, ← h, or-false same)
+-- one prefix more is looked at
+pub has-more : (s : List ℕ) (start c : Cursor) (i : ℕ) (x : BasicPrefix) (r : Read BasicPrefix) (found same : Bool) → c ≡ times i readPrefix s start .next → r ≡ readPrefix s c → found ≡ has x (times i readPrefix s start .value) → same ≡ eqPrefix (r .value) x → (found || same) ≡ has x (times (i + 1) readPrefix s start .value)
+unfolding times has
+has-more s start c i x r found same e f g h =
+    rw (add-one, has-append x (times i readPrefix s start .value) (readPrefix s (times i readPrefix s start .next) .value ∷ []), ← e, ← f, ← g, ← h, or-false same)
 
 -- whether a place breaks a rule, by what its element is held against
 pub breaks-is : (r : Rule) (l o : List BasicPrefix) (i : ℕ) → breaks r l o i ≡ cond (isMissing r) (not (has (at l i) (cond (isRepeat r) (take i l) o))) (has (at l i) (cond (isRepeat r) (take i l) o))

@@ -16,7 +16,7 @@ ghost use Rattle.events.specs.Members.{view, has, isRepeat, isMissing, check, c
 ghost use Rattle.events_tel.specs.TelEvents.{membersIn};
 ghost use Rattle.codec_cursor.specs.Readers.{readPrefix, times};
 
-// Whether x is among the n prefixes that stand from a cursor on. Each is compared where it stands.
+// Whether x is among the n prefixes that stand from a cursor on.
 pub fn found_in(s: &[u8], start: Cursor, n: usize, x: BasicPrefix) -> bool
     ensures { λ r. ⌜ r ≡ has x (times n readPrefix (now (s .entry)) start .value) ⌝ }
 {
@@ -24,8 +24,9 @@ pub fn found_in(s: &[u8], start: Cursor, n: usize, x: BasicPrefix) -> bool
     let mut found = false;
     let mut i: usize = 0;
     while i < n {
-        found = found | x.0.same_at(s, c.at);
-        c = c.pass_prefix(s);
+        let p = c.prefix(s);
+        found = found | p.value.same(x);
+        c = p.next;
         i += 1;
     }
     found

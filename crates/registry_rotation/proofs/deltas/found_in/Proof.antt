@@ -4,7 +4,7 @@ use native.Mathlib.Omega.{arith}
 use denote.Ref.{now}
 use borrow.Author.Needs.{needs}
 use Rattle.events.specs.Members.{has}
-use Rattle.codec.proofs.Loops.{times-passed}
+use Rattle.codec.proofs.Loops.{times-next}
 use Rattle.codec_cursor.specs.Readers.{readPrefix, times}
 use Rattle.registry_rotation.proofs.Listed.{has-more}
 use Rattle.registry_rotation.proofs.deltas.found_in.Statement.{statement}
@@ -21,11 +21,11 @@ loop-holds : tie.Need-loop-holds Inv-loop μ-loop
 unfolding times has
 loop-holds c = (search needs, refl, refl)
 
-same-at-requires : tie.Need-same-at-requires Inv-loop μ-loop
-same-at-requires c κs = search needs
+prefix-requires : tie.Need-prefix-requires Inv-loop μ-loop
+prefix-requires c κs = search needs
 
-pass-prefix-requires : tie.Need-pass-prefix-requires Inv-loop μ-loop
-pass-prefix-requires c κs = search needs
+same-requires : tie.Need-same-requires Inv-loop μ-loop
+same-requires c κs = search needs
 
 add-i : tie.Need-add-i Inv-loop μ-loop
 add-i c = search needs
@@ -35,10 +35,11 @@ loop-less c = search needs
 
 loop-again : tie.Need-loop-again Inv-loop μ-loop
 loop-again c =
-    let l = c .before .before .before .loop in (
+    let p = c .before .before in
+    let l = p .before .before .loop in (
       search needs,
-      times-passed readPrefix _ _ _ _ _ (l .inv .1) (c .pass-prefix .ensures),
-      has-more _ _ _ (l .i) _ (l .found) _ (l .inv .1) (l .inv .2) (c .before .same-at .ensures),
+      times-next readPrefix _ _ _ _ _ (l .inv .1) (p .prefix .ensures),
+      has-more _ _ _ (l .i) _ _ (l .found) _ (l .inv .1) (p .prefix .ensures) (l .inv .2) (c .before .same .ensures),
     )
 
 returns : tie.Need-returns Inv-loop μ-loop
@@ -54,8 +55,8 @@ found-in-spec =
     Inv-loop
     μ-loop
     loop-holds
-    same-at-requires
-    pass-prefix-requires
+    prefix-requires
+    same-requires
     add-i
     loop-less
     loop-again
