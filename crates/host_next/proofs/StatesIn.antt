@@ -1,9 +1,11 @@
 -- States in bytes, as the code reads them.
 --     whole-is                         bytes are a value exactly when they are its layout and it is within the limits
 --     registry-is                      the same of a registry state
+--     read-none, read-some             bytes that are found to be no registry state, and ones that are found to be one
+--     id-place, issuer-place           where the first two primitives of a state stand
 --     registry-none, registry-some     bytes that the code finds to be no registry state, and ones that it finds to be one
-use Prim.Native.Nat.{ℕ}
-use mathlib.Core.Path.{_≡_, refl, ap, sym, _∙_}
+use Prim.Native.Nat.{ℕ, _+_}
+use mathlib.Core.Path.{_≡_, refl, ap, subst, sym, _∙_}
 use mathlib.Core.Bool.{Bool, true, false, cond, _&&_}
 use mathlib.Core.List.{List}
 use mathlib.Core.Logic.{_↔_}
@@ -12,10 +14,16 @@ use native.Mathlib.Omega.{arith}
 use lib.Dec.{eqb}
 use lib.ListN.{length}
 use Rattle.laws.specs.Number.{Bytes}
-use Rattle.laws.proofs.Tests.{and-left}
+use Rattle.laws.proofs.Tests.{and-left, and-right}
+use Rattle.cesr.specs.declared.primitive.Matter.{Matter}
+use Rattle.cesr.specs.declared.primitive.Said.{Said}
+use Rattle.cesr.specs.Primitives.{readMatter, matterBytes}
+use Rattle.cesr.proofs.Matters.{length-matter}
 use Rattle.codec_cursor.specs.declared.cursor.Cursor.{Cursor}
-use Rattle.codec_cursor.specs.Readers.{Reader, starting}
-use Rattle.codec_laws.proofs.Codes.{Codes}
+use Rattle.codec_cursor.specs.Readers.{Read, Reader, starting, placed, readIf, readSaid, readIdentifier}
+use Rattle.codec.specs.Layout.{saidBytes, goodSaid, goodIdentifier}
+use Rattle.codec_laws.proofs.Stands.{Stands, stands-first, stands-rest, whole-stands}
+use Rattle.codec_laws.proofs.Codes.{Codes, codes-said, codes-identifier}
 use Rattle.codec_laws.proofs.CodesRound.{whole-sound, whole-complete}
 use Rattle.registry_state.specs.States.{Registry, viewRegistry, registryBytes, goodRegistry, readRegistry, viewRegistryRead, wellRegistry}
 use Rattle.registry_state.specs.declared.state.RegistryRead.{RegistryRead}
@@ -41,6 +49,38 @@ module _ {A : Type 0} {p : Reader A} {bytes : A → List ℕ} {good : A → Bool
 pub registry-is : (s : List ℕ) (g : Registry) → Bytes s → (registryIn s ≡ some g) ↔ ((s ≡ registryBytes g) × (goodRegistry g ≡ true))
 unfolding registryIn
 registry-is s g b = whole-is codes-registry s g b
+
+-- the same of a state that was read in any form
+module _ (s : List ℕ) (c : Cursor) (t : Bool) (b : c ≡ starting) (r : Read Registry) (e : r ≡ readRegistry s c) (f : t ≡ (r .next .ok && eqb (r .next .at) (length s))) where
+  pub read-none : t ≡ false → registryIn s ≡ none
+  unfolding registryIn
+  read-none h = rw (← b, ← e, ← f, h)
+
+  pub read-some : t ≡ true → registryIn s ≡ some (r .value)
+  unfolding registryIn
+  read-some h = rw (← b, ← e, ← f, h)
+
+-- the first primitive of a state, and the rest of it
+module _ (s : List ℕ) (g : Registry) (b : Bytes s) (e : registryIn s ≡ some g) where
+  stands : Stands s 0 (registryBytes g)
+  stands = rw (registry-is s g b .0 e .0) (whole-stands (registryBytes g))
+
+  pub id-place : readMatter s 0 ≡ g .id .0
+  unfolding registryBytes goodRegistry readSaid readIf
+  id-place =
+      let w = registry-is s g b .0 e in
+      let r = codes-said .complete s starting (g .id) refl (stands-first s 0 (saidBytes (g .id)) _ stands) (and-left (goodSaid (g .id)) _ (w .1)) in
+      ap (λ (x : Read Said). x .value .0) r
+
+  pub issuer-place : readMatter s 33 ≡ g .issuer
+  unfolding registryBytes goodRegistry readIdentifier readIf
+  issuer-place =
+      let w = registry-is s g b .0 e in
+      let rest = stands-rest s 0 (saidBytes (g .id)) _ stands in
+      let place : 0 + length (saidBytes (g .id)) ≡ 33 = omega (arith, length-matter (g .id .0)) in
+      let at : Stands s 33 (matterBytes (g .issuer)) = subst (λ (k : ℕ). Stands s k (matterBytes (g .issuer))) place (stands-first s (0 + length (saidBytes (g .id))) (matterBytes (g .issuer)) _ rest) in
+      let good = and-left (goodIdentifier (g .issuer)) _ (and-right (goodSaid (g .id)) _ (w .1)) in
+      ap (λ (x : Read Matter). x .value) (codes-identifier .complete s (placed 33) (g .issuer) refl at good)
 
 module _ (s : List ℕ) (c : Cursor) (t : Bool) (b : c ≡ starting) (r : RegistryRead) (e : viewRegistryRead r ≡ readRegistry s c) (f : t ≡ (r .next .ok && eqb (r .next .at) (length s))) where
   pub registry-none : t ≡ false → registryIn s ≡ none

@@ -2,6 +2,7 @@
 --     made            the bytes of its state
 --     incepted-next   an inception that accepts, by these bytes
 --     incept-answer   its answer
+--     is-accepted     an answer that accepts
 use Prim.Native.Nat.{ℕ}
 use mathlib.Core.Path.{_≡_, refl, ap, sym}
 use mathlib.Core.Bool.{true, false≢true}
@@ -26,7 +27,7 @@ pub made : (s : List ℕ) (o : Inception) (c : Cursor) → nextBytes s s (record
 unfolding nextBytes nextMembers updatedMembers survivors membersIn times inceptedAt
 made s o c = sym (registry-head (inceptedAt s o))
 
-is-accepted : (x : Answer) → accepts x ≡ true → Accepted ≡ x
+pub is-accepted : (x : Answer) → accepts x ≡ true → Accepted ≡ x
 is-accepted Accepted h = refl
 is-accepted (Rejected r) h = absurd (false≢true h)
 

@@ -1,24 +1,29 @@
-// A vcp and a vrt. The next state's bytes go to the start of `next`. A refused fold's state is not handed on, since a state is copied at every call.
+// A vcp and a vrt. The next state's bytes go to the start of `next`, each part from where it stands: no state is made as a value.
 use cesr_sn::number::Sn;
 use codec_cursor::cursor::Cursor;
 use events_tel::tel::Listed;
 use host_next::registry_next::leave_next;
-use host_next::registry_next::leave_registry;
 use host_parts::part::is_whole;
 use host_parts::part::malformed;
 use host_report::report::report_answer;
-use registry::registry::ingest;
+use registry::rotation::RotationRead;
+use registry::rotation::ingest_read;
 use registry_answer::answer::accepts;
 use registry_copy::next::NextState;
 use registry_inception::registry::Inception;
 use registry_inception::registry::incept_read;
-use registry_state::state::RegistryState;
+use registry_management::management::Management;
+use registry_management::management::read_management;
 ghost use mathlib.Core.Path.{_≡_};
 ghost use Prim.Native.Nat.{ℕ};
 ghost use mathlib.Core.List.{List};
+ghost use Rattle.cesr.specs.Primitives.{readMatter};
+ghost use Rattle.events_tel.specs.TelEvents.{membersIn};
 ghost use Rattle.registry_state.specs.States.{registryBytes};
+ghost use Rattle.registry_management.specs.Managements.{viewManagement};
 ghost use Rattle.registry_copy.specs.NextStates.{nextBytes};
 ghost use Rattle.registry_inception.specs.InceptionFolds.{inceptedAt};
+ghost use Rattle.registry.specs.Rotations.{rotatedAt};
 ghost use Rattle.host_next.specs.ByteFolds.{called, callOf};
 ghost use Rattle.host_registry.specs.RegistryByteFolds.{registryIncept, registryIngest};
 
@@ -56,18 +61,41 @@ pub fn registry_incept(attempt: &[u8], next: &mut [u8], report: &mut [u8; 36]) -
     report_answer(answer, report)
 }
 
+// What a vrt's state is made of. A state begins with its id, in 33 bytes, and its issuer.
+fn rotated_of(g: Management, current: Listed, o: RotationRead) -> NextState
+    ensures { λ r. ⌜ ((held s : List ℕ) → readMatter held 0 ≡ g .id .0 → readMatter held 33 ≡ g .issuer → nextBytes held s r ≡ registryBytes (rotatedAt (viewManagement g (membersIn held current)) s o)) ⌝ }
+{
+    let sn = o.sn;
+    let toad = o.toad;
+    let configs = g.configs;
+    let cuts = o.cuts;
+    let additions = o.additions;
+    NextState {
+        id: 0,
+        issuer: 33,
+        sn,
+        latest: o.latest,
+        toad,
+        configs,
+        current,
+        cuts,
+        additions,
+    }
+}
+
 // A vrt.
 pub fn registry_ingest(state: &[u8], attempt: &[u8], next: &mut [u8], report: &mut [u8; 36]) -> u8
     ensures { λ r. ⌜ called r (now (report .exit)) (now (next .exit)) ≡ callOf (registryIngest (now (state .entry)) (now (attempt .entry))) (now (next .entry)) ⌝ }
 {
-    let g = RegistryState::read(Cursor::start(), state);
+    let g = read_management(Cursor::start(), state);
     if !is_whole(g.next, state) {
         return malformed(report);
     }
-    let o = ingest(g.value, attempt);
+    let o = ingest_read(g.value, g.backers, state, attempt);
     let answer = o.answer;
     if accepts(answer) {
-        return leave_registry(o, next, report);
+        let p = rotated_of(g.value, g.backers, o);
+        return leave_next(state, attempt, p, next, report);
     }
     report_answer(answer, report)
 }

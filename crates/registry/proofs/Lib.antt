@@ -1,2 +1,3 @@
 pub mod RegistryLaws
+pub mod VrtLaws
 pub mod WellLaws

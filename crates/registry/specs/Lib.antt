@@ -1,1 +1,2 @@
 pub mod RegistryFolds
+pub mod Rotations

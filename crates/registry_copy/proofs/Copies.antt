@@ -7,7 +7,7 @@
 --     member-next        the same of a prefix that a loop passes
 --     backers-sets       one list behind another
 --     length-next        how many members there are then
---     few-survive, few-added           at most 16 of each
+--     few-left, few-survive, few-added at most 16 of each
 --     size-next          how many bytes a next state has
 --     next-sets          its bytes, in the two parts that they are stored in
 --     member-bytes       the bytes of a prefix that is read are those of the primitive at its place
@@ -119,9 +119,12 @@ length-listed s l = length-times readPrefix s (l .start) (min (l .count) 16)
 pub few-added : (s : List ℕ) (l : Listed) (n : ℕ) → n ≡ min (l .count) 16 → (n ≡ length (membersIn s l)) × (n ≤ 16)
 few-added s l n e = (e ∙ sym (length-listed s l), omega arith)
 
+pub few-left : (held : List ℕ) (current : Listed) (s : List ℕ) (cuts : Listed) (n : ℕ) → n ≡ length (survivors (membersIn s cuts) (membersIn held current)) → n ≤ 16
+few-left held current s cuts n e = omega (arith, survivors-fewer (membersIn s cuts) (membersIn held current), length-listed held current)
+
 module _ (held s : List ℕ) (p : NextState) where
   pub few-survive : (n : ℕ) → n ≡ length (survivors (membersIn s (p .cuts)) (membersIn held (p .current))) → n ≤ 16
-  few-survive n e = omega (arith, survivors-fewer (membersIn s (p .cuts)) (membersIn held (p .current)), length-listed held (p .current))
+  few-survive n e = few-left held (p .current) s (p .cuts) n e
 
   pub length-next : length (nextMembers held s p) ≡ length (survivors (membersIn s (p .cuts)) (membersIn held (p .current))) + length (membersIn s (p .additions))
   unfolding nextMembers updatedMembers

@@ -11,7 +11,7 @@ use mathlib.Core.List.{List, [], _∷_}
 use native.Mathlib.Omega.{arith}
 use native.Mathlib.Numerals.{add-one}
 use native.Mathlib.Decide.{ℕ-discrete}
-use lib.ListN.{length, take, getD, length-append, List·getD-append}
+use lib.ListN.{take, getD, List·getD-append}
 use lib.Seq.{take-all, take-append-le, getD-at}
 use Rattle.cesr.specs.declared.primitive.BasicPrefix.{BasicPrefix}
 use Rattle.cesr.specs.Primitives.{readMatter, eqMatter}
