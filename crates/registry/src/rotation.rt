@@ -1,6 +1,6 @@
 // The rotation of a registry whose state stays in its bytes, as the attempt does (docs/RULES.md, "Orders", "Next states"). The first check that refuses is returned at once, since an answer is copied by every check behind it.
-use cesr_sn::number::Sn;
 use cesr::primitive::Said;
+use cesr_sn::number::Sn;
 use codec::section::at_most_16;
 use codec_cursor::cursor::Cursor;
 use events_tel::tel::Kind;

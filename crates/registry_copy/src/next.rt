@@ -1,6 +1,6 @@
 // The next state of a registry. Nothing that has 33 bytes is read into a value: it is copied from where it stands.
-use cesr_sn::number::Sn;
 use cesr::primitive::Matter;
+use cesr_sn::number::Sn;
 use codec::section::at_most_16;
 use events_tel::config::Configs;
 use events_tel::tel::Listed;
