@@ -19,8 +19,8 @@ use Rattle.registry_management.specs.declared.management.Management.{Management
 use Rattle.registry_wire.specs.Attempts.{decodeOf}
 use Rattle.registry_answer.specs.Answers.{accepts}
 use Rattle.registry.specs.RegistryFolds.{ingestDecoded}
-use Rattle.registry.specs.Rotations.{rotatedAt, rotationAt}
-use Rattle.registry.specs.declared.rotation.RotationRead.{RotationRead}
+use Rattle.registry_rotation_read.specs.Rotations.{rotatedAt, rotationAt}
+use Rattle.registry_rotation_read.specs.declared.rotation.RotationRead.{RotationRead}
 use Rattle.host_next.specs.ByteFolds.{registryIn, nextFolded}
 use Rattle.host_registry.specs.RegistryByteFolds.{registryIngest}
 use Rattle.host_registry.proofs.InceptionCalls.{is-accepted}

@@ -1,3 +1,2 @@
 pub mod RegistryLaws
-pub mod VrtLaws
 pub mod WellLaws

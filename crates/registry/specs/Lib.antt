@@ -1,2 +1,1 @@
 pub mod RegistryFolds
-pub mod Rotations

@@ -26,8 +26,8 @@ ghost use Rattle.registry_wire.specs.Attempts.{viewAttempt, decodeOf};
 ghost use Rattle.registry_signatures.specs.SignatureSections.{signaturesIn};
 ghost use Rattle.registry_management.specs.Managements.{viewManagement};
 ghost use Rattle.registry_authentication.specs.Issuers.{Anchored};
 ghost use Rattle.registry.specs.RegistryFolds.{vrtBackers, vrtAnswer, ingestEvent, ingestDecoded};
-ghost use Rattle.registry.specs.Rotations.{rotationAt};
+ghost use Rattle.registry_rotation_read.specs.Rotations.{rotationAt};
 
 // An answer to a rotation, and what it changes of the state: values, and places in the attempt's bytes. They mean something where the answer accepts.
 pub struct RotationRead {

@@ -4,10 +4,10 @@ use Rattle.events_tel.specs.TelEvents.{eventAs, membersIn}
 use Rattle.events_tel.specs.declared.tel.Kind.{Kind}
 use Rattle.registry_wire.specs.Attempts.{viewAttempt}
 use Rattle.registry_management.specs.Managements.{viewManagement}
 use Rattle.registry.specs.RegistryFolds.{ingestEvent}
 use borrow.Author.Needs.{needs}
-use Rattle.registry.proofs.rotation.ingest_answer.Statement.{statement}
-use Rattle.registry.proofs.rotation.ingest_answer.Tie as tie
+use Rattle.registry_rotation_read.proofs.rotation.ingest_answer.Statement.{statement}
+use Rattle.registry_rotation_read.proofs.rotation.ingest_answer.Tie as tie
 
 enum-told : tie.Need-enum-told
 enum-told c = search needs

@@ -12,10 +12,10 @@ use Rattle.registry_answer.proofs.AnswerLaws.{first-passed, first-failed, first
 use Rattle.registry_copy.proofs.Copies.{few-left, few-added}
 use Rattle.registry_backer.specs.Backers.{enoughReceipts}
 use Rattle.registry_inception.specs.InceptionFolds.{thresholdFits}
-use Rattle.registry.proofs.VrtLaws.{after, membersOf, current, limit, threshold, receipts, members-first, count-after}
+use Rattle.registry_rotation_read.proofs.VrtLaws.{after, membersOf, current, limit, threshold, receipts, members-first, count-after}
 use borrow.Author.Needs.{needs}
-use Rattle.registry.proofs.rotation.members_answer.Statement.{statement}
-use Rattle.registry.proofs.rotation.members_answer.Tie as tie
+use Rattle.registry_rotation_read.proofs.rotation.members_answer.Statement.{statement}
+use Rattle.registry_rotation_read.proofs.rotation.members_answer.Tie as tie
 
 check-deltas-requires : tie.Need-check-deltas-requires
 check-deltas-requires c κs = search needs

@@ -38,9 +38,9 @@ use Rattle.registry_copy.proofs.Copies.{few-added}
 use Rattle.registry_authentication.specs.Issuers.{authenticateIssuer}
 use Rattle.registry_backer.specs.Backers.{isBackerless, enoughReceipts}
 use Rattle.registry_inception.specs.InceptionFolds.{thresholdFits}
 use Rattle.registry.specs.RegistryFolds.{vrtBackers, vrtAnswer, ingestEvent, rotated, ingestMessage, ingestDecoded}
-use Rattle.registry.specs.Rotations.{rotatedAt, rotationAt}
-use Rattle.registry.specs.declared.rotation.RotationRead.{RotationRead}
+use Rattle.registry_rotation_read.specs.Rotations.{rotatedAt, rotationAt}
+use Rattle.registry_rotation_read.specs.declared.rotation.RotationRead.{RotationRead}
 
 -- the lists of a vrt, and the members after it
 module _ (now : List BasicPrefix) (s : List ℕ) (a : Attempt) where

@@ -14,10 +14,10 @@ use Rattle.registry_answer.specs.Answers.{firstOf}
 use Rattle.registry_answer.proofs.AnswerLaws.{first-passed, first-failed, first-passes, first-refuses, first-last}
 use Rattle.registry_authentication.specs.Issuers.{authenticateIssuer, authenticateIn}
 use Rattle.registry_authentication.proofs.AnchorUse.{issuer-in}
-use Rattle.registry.proofs.VrtLaws.{vrtOf, flavor, place, behind, anchor, backers, unrouted, routed}
+use Rattle.registry_rotation_read.proofs.VrtLaws.{vrtOf, flavor, place, behind, anchor, backers, unrouted, routed}
 use borrow.Author.Needs.{needs}
-use Rattle.registry.proofs.rotation.rotation_answer.Statement.{statement}
-use Rattle.registry.proofs.rotation.rotation_answer.Tie as tie
+use Rattle.registry_rotation_read.proofs.rotation.rotation_answer.Statement.{statement}
+use Rattle.registry_rotation_read.proofs.rotation.rotation_answer.Tie as tie
 
 same-at-requires : tie.Need-same-at-requires
 same-at-requires c κs = search needs

@@ -4,10 +4,10 @@ use mathlib.Core.Path.{refl, sym, _∙_}
 use Rattle.events_tel.specs.TelEvents.{membersIn}
 use Rattle.registry_management.specs.Managements.{viewManagement}
 use Rattle.registry_authentication.proofs.AnchorUse.{decoded-good, anchored-parts}
-use Rattle.registry.proofs.VrtLaws.{rotate-placed, rotate-unplaced, told-decoded, told-malformed}
+use Rattle.registry_rotation_read.proofs.VrtLaws.{rotate-placed, rotate-unplaced, told-decoded, told-malformed}
 use borrow.Author.Needs.{needs}
-use Rattle.registry.proofs.rotation.ingest_read.Statement.{statement}
-use Rattle.registry.proofs.rotation.ingest_read.Tie as tie
+use Rattle.registry_rotation_read.proofs.rotation.ingest_read.Statement.{statement}
+use Rattle.registry_rotation_read.proofs.rotation.ingest_read.Tie as tie
 
 decode-requires : tie.Need-decode-requires
 decode-requires c κs = search needs
