@@ -7,19 +7,22 @@
 --     member-next        the same of a prefix that a loop passes
 --     backers-sets       one list behind another
 --     length-next        how many members there are then
---     few-left, few-survive, few-added at most 16 of each
+--     few-left, few-added at most 16 of each
+--     counted, few-next, most-next
+--                        how many members there are, by how many survive; at most 32; and no more than are held and added
+--     set-before         a store before a run of stores may go first
 --     size-next          how many bytes a next state has
 --     next-sets          its bytes, in the two parts that they are stored in
 --     member-bytes       the bytes of a prefix that is read are those of the primitive at its place
-use Prim.Native.Nat.{ℕ, zero, suc, _+_, _*_, _≤_, min}
+use Prim.Native.Nat.{ℕ, zero, suc, _+_, _*_, _≤_, _<_, min}
 use mathlib.Core.Path.{_≡_, refl, ap, sym, _∙_}
 use mathlib.Core.Bool.{Bool, true, false, cond}
 use mathlib.Core.List.{List, [], _∷_, _++_}
 use native.Mathlib.Omega.{arith}
 use native.Mathlib.Numerals.{add-one}
 use native.Mathlib.Decide.{ℕ-discrete}
-use lib.ListN.{length, length-append}
-use lib.Seq.{sets, length-sets}
+use lib.ListN.{length, length-append, set}
+use lib.Seq.{sets, length-sets, set-comm}
 use Rattle.laws.specs.Room.{put}
 use Rattle.laws.proofs.Room.{put-sets, sets-append}
 use Rattle.cesr.specs.declared.primitive.BasicPrefix.{BasicPrefix}
@@ -112,6 +115,12 @@ member-next s start b at i c e h =
 pub backers-sets : (b : List ℕ) (u v : List BasicPrefix) → sets (sets b 1 (joined prefixBytes u)) (1 + 33 * length u) (joined prefixBytes v) ≡ sets b 1 (joined prefixBytes (u ++ v))
 backers-sets b u v = rw (joined-append prefixBytes u v, sets-append, length-members u)
 
+pub set-before : (l : List ℕ) (i at : ℕ) (vs : List ℕ) (x : ℕ) → i < at → set (sets l at vs) i x ≡ sets (set l i x) at vs
+set-before l i at [] x h = refl
+set-before l i at (v ∷ vs) x h =
+    set-before (set l at v) i (suc at) vs x (omega arith)
+    ∙ ap (λ (m : List ℕ). sets m (suc at) vs) (set-comm l at i v x (λ e. omega arith))
+
 length-listed : (s : List ℕ) (l : Listed) → length (membersIn s l) ≡ min (l .count) 16
 unfolding membersIn
 length-listed s l = length-times readPrefix s (l .start) (min (l .count) 16)
@@ -123,12 +132,23 @@ pub few-left : (held : List ℕ) (current : Listed) (s : List ℕ) (cuts : Liste
 few-left held current s cuts n e = omega (arith, survivors-fewer (membersIn s cuts) (membersIn held current), length-listed held current)
 
 module _ (held s : List ℕ) (p : NextState) where
-  pub few-survive : (n : ℕ) → n ≡ length (survivors (membersIn s (p .cuts)) (membersIn held (p .current))) → n ≤ 16
-  few-survive n e = few-left held (p .current) s (p .cuts) n e
-
   pub length-next : length (nextMembers held s p) ≡ length (survivors (membersIn s (p .cuts)) (membersIn held (p .current))) + length (membersIn s (p .additions))
   unfolding nextMembers updatedMembers
   length-next = length-append (survivors (membersIn s (p .cuts)) (membersIn held (p .current))) (membersIn s (p .additions))
+
+  pub counted : (u v : ℕ) → u ≡ length (survivors (membersIn s (p .cuts)) (membersIn held (p .current))) → v ≡ min (p .additions .count) 16 → (u + v ≡ length (nextMembers held s p)) × (u + v ≤ 32)
+  counted u v e f =
+      let g = few-left held (p .current) s (p .cuts) u e in
+      (omega (arith, length-next, length-listed s (p .additions)), omega arith)
+
+  pub few-next : length (nextMembers held s p) ≤ 32
+  few-next =
+      let n = counted (length (survivors (membersIn s (p .cuts)) (membersIn held (p .current)))) (min (p .additions .count) 16) refl refl in
+      omega (arith, n .0, n .1)
+
+  pub most-next : (u v : ℕ) → u ≡ min (p .current .count) 16 → v ≡ min (p .additions .count) 16 → length (nextMembers held s p) ≤ u + v
+  most-next u v e f =
+      omega (arith, length-next, length-listed s (p .additions), survivors-fewer (membersIn s (p .cuts)) (membersIn held (p .current)), length-listed held (p .current))
 
   abbrev front : List ℕ
   front = frontBytes (readMatter held (p .id)) (readMatter held (p .issuer)) (p .sn) (readMatter s (p .latest)) (p .toad .0) (viewConfigs (p .configs))

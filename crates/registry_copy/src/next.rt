@@ -9,6 +9,7 @@ use registry_bytes::writer::copy_front;
 use registry_rotation::deltas::found_in;
 ghost use mathlib.Core.Path.{_≡_};
 ghost use Prim.Native.Nat.{_+_, _*_, _≤_};
+ghost use lib.Dec.{leb};
 ghost use lib.ListN.{length};
 ghost use lib.Seq.{sets};
 ghost use Rattle.laws.specs.Room.{room, put};
@@ -101,14 +102,37 @@ fn copy_members(s: &[u8], list: Listed, out: &mut [u8], at: usize)
     }
 }
 
-// The section of the backers, of which there are so many: survivors, then additions.
-fn copy_backers(held: &[u8], s: &[u8], p: NextState, count: usize, out: &mut [u8])
-    requires { ⌜ (count ≡ length (nextMembers (now held) (now s) p)) × (1 + 33 * count ≤ length (now out)) × (count ≤ 32) ⌝ }
-    ensures { λ r. ⌜ now (out .exit) ≡ sets (now (out .entry)) 0 (sectionBytes prefixBytes (nextMembers (now (held .entry)) (now (s .entry)) p)) ⌝ }
+// The section of the backers: survivors, then additions. Answers how many they are, since that is known when the survivors are stored.
+fn copy_backers(held: &[u8], s: &[u8], p: NextState, out: &mut [u8]) -> usize
+    requires { ⌜ 1 + 33 * length (nextMembers (now held) (now s) p) ≤ length (now out) ⌝ }
+    ensures count { λ r. ⌜ r ≡ length (nextMembers (now (held .entry)) (now (s .entry)) p) ⌝ }
+    ensures stored { λ r. ⌜ now (out .exit) ≡ sets (now (out .entry)) 0 (sectionBytes prefixBytes (nextMembers (now (held .entry)) (now (s .entry)) p)) ⌝ }
 {
-    out[0] = count as u8;
     let left = copy_survivors(held, p.current, s, p.cuts, out);
+    let count = left + at_most_16(p.additions.count);
+    out[0] = count as u8;
     copy_members(s, p.additions, out, 1 + 33 * left);
+    count
+}
+
+// How many bytes a next state has.
+fn next_size(held: &[u8], s: &[u8], p: NextState) -> usize
+    ensures { λ r. ⌜ r ≡ length (nextBytes (now (held .entry)) (now (s .entry)) p) ⌝ }
+{
+    let left = surviving(held, p.current, s, p.cuts);
+    let count = left + at_most_16(p.additions.count);
+    121 + p.configs.size() + 33 * count
+}
+
+// Whether so many bytes are enough. Where they are enough for all members, the cuts among them too, the survivors need not be counted.
+fn is_enough(held: &[u8], s: &[u8], p: NextState, bytes: usize) -> bool
+    ensures { λ r. ⌜ r ≡ leb (length (nextBytes (now (held .entry)) (now (s .entry)) p)) bytes ⌝ }
+{
+    let count = at_most_16(p.current.count) + at_most_16(p.additions.count);
+    if 121 + p.configs.size() + 33 * count <= bytes {
+        return true;
+    }
+    next_size(held, s, p) <= bytes
 }
 
 // The bytes of a next state, stored from the start of `out` on: all of them or none.
@@ -116,11 +140,8 @@ pub fn write_next(held: &[u8], s: &[u8], p: NextState, out: &mut [u8]) -> Writte
     ensures size { λ r. ⌜ r .size ≡ length (nextBytes (now (held .entry)) (now (s .entry)) p) ⌝ }
     ensures stored { λ r. ⌜ (r .ok ≡ room (now (out .entry)) 0 (length (nextBytes (now (held .entry)) (now (s .entry)) p))) × (now (out .exit) ≡ put (now (out .entry)) 0 (nextBytes (now (held .entry)) (now (s .entry)) p)) ⌝ }
 {
-    let left = surviving(held, p.current, s, p.cuts);
-    let count = left + at_most_16(p.additions.count);
-    let behind = 120 + p.configs.size();
-    let size = behind + 1 + 33 * count;
-    if out.len() < size {
+    if !is_enough(held, s, p, out.len()) {
+        let size = next_size(held, s, p);
         return Written { ok: false, size };
     }
     copy_front(
@@ -134,6 +155,8 @@ pub fn write_next(held: &[u8], s: &[u8], p: NextState, out: &mut [u8]) -> Writte
         p.configs,
         out,
     );
-    copy_backers(held, s, p, count, &mut out[behind..]);
+    let behind = 120 + p.configs.size();
+    let count = copy_backers(held, s, p, &mut out[behind..]);
+    let size = behind + 1 + 33 * count;
     Written { ok: true, size }
 }
