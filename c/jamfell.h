@@ -185,6 +185,12 @@ uint8_t jamfell_credential_ingest(const uint8_t *registry, size_t registry_size,
                                   const uint8_t *attempt, size_t attempt_size, uint8_t *next, size_t next_size,
                                   jamfell_report *report);
 
+/*
+ * Whether bytes are an attempt ("Bytes"), and no other rule: 0 with the number of its kind as the first value (1 vcp, 2 vrt, 3 iss,
+ * 4 rev, 5 bis, 6 brv), or 1.
+ */
+uint8_t jamfell_decode(const uint8_t *attempt, size_t attempt_size, jamfell_report *report);
+
 /* Whether a credential is its issuer's and stands unrevoked under its registry ("Status"): 0, 1 or 31 to 39. */
 uint8_t jamfell_status(const uint8_t *input, size_t input_size, jamfell_report *report);
 

@@ -360,6 +360,23 @@ static void test_folds(void) {
     CHECK(first(&report) == 2 && second(&report) == 1);
 }
 
+/* Bytes that are an attempt, and the same without their last one and with one more. */
+static void test_decode(void) {
+    jamfell_report report;
+    pieces each[3];
+    int k;
+    each[0] = vcp();
+    each[1] = iss_or_rev(3);
+    each[2] = iss_or_rev(4);
+    for (k = 0; k < 3; k++) {
+        CHECK(is(jamfell_decode(each[k].bytes, each[k].size, &report), &report, 0, 'A', 0, 1));
+        CHECK(first(&report) == each[k].bytes[0]);
+        CHECK(is(jamfell_decode(each[k].bytes, each[k].size - 1, &report), &report, JAMFELL_MALFORMED, 'T', 0, 0));
+        CHECK(is(jamfell_decode(each[k].bytes, each[k].size + 1, &report), &report, JAMFELL_MALFORMED, 'T', 0, 0));
+    }
+    CHECK(jamfell_decode(each[0].bytes, 0, &report) == JAMFELL_MALFORMED);
+}
+
 /* A credential whose registry there is no state of. */
 static void test_status(void) {
     jamfell_report report;
@@ -398,6 +415,7 @@ int main(void) {
     test_image(&l);
     test_any_bits(&l);
     test_folds();
+    test_decode();
     test_status();
     test_thresholds();
     printf("%d checks, %d failed\n", checks, failures);

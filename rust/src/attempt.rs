@@ -38,6 +38,7 @@ use crate::primitive::{Identifier, Said};
 use crate::state::RegistryState;
 
 pub use crate::event::{Seal, TelEvent};
+pub use crate::kind::{decode, Kind};
 pub use crate::layout::TooMany;
 
 /// The most bytes that an attempt has. What is longer is malformed.

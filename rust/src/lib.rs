@@ -3,7 +3,7 @@
 //!
 //! - [`Ledger`] holds registries and credentials: [`apply`](Ledger::apply) takes an attempt in, [`standing`](Ledger::standing)
 //!   answers how a credential stands, [`to_image`](Ledger::to_image) and [`from_image`](Ledger::from_image) keep it.
-//! - [`attempt`] makes the bytes of attempts from values.
+//! - [`attempt`] makes the bytes of attempts from values, and says of bytes whether they are one.
 //! - [`folds`], [`status`](status::status), [`exact`] and [`ample`] are for hosts that keep the states themselves.
 //! - Each call answers a [`Refused`] where it refuses: a [`Refusal`] with its details, and a [`Disposition`], which says what to do.
 //! - [`sys`] has the calls as they are.
@@ -53,6 +53,7 @@ mod credential_error;
 mod disposition;
 mod event;
 pub mod folds;
+mod kind;
 mod layout;
 mod ledger;
 mod primitive;

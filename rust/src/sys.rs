@@ -110,6 +110,9 @@ extern "C" {
         report: *mut [u8; REPORT_BYTES],
     ) -> u8;
 
+    /// Whether bytes are an attempt, and of which kind.
+    pub fn jamfell_decode(attempt: *const u8, attempt_size: usize, report: *mut [u8; REPORT_BYTES]) -> u8;
+
     /// Whether a credential stands.
     pub fn jamfell_status(input: *const u8, input_size: usize, report: *mut [u8; REPORT_BYTES]) -> u8;
 

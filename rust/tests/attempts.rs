@@ -2,7 +2,9 @@
 mod common;
 
 use common::world::*;
-use jamfell::attempt::{Attempt, Seal, Signature, Source, TelEvent, TelEvidence, TooMany, ATTEMPT_BYTES_MAX};
+use jamfell::attempt::{
+    decode, Attempt, Kind, Seal, Signature, Source, TelEvent, TelEvidence, TooMany, ATTEMPT_BYTES_MAX,
+};
 use jamfell::state::{ConfigTrait, RegistryState, REGISTRY_STATE_BYTES_MAX};
 use jamfell::{Ledger, Refusal};
 
@@ -61,6 +63,22 @@ fn what_stands_behind_an_event() {
     assert_eq!(behind(&anchored), laid_out("1 n40 E7  1 I n40 E7  1 4 E3 n0 E4  0  1 0"));
     let signed = vec![Signature { index: 0x01020304, good: true }, Signature { index: 5, good: false }];
     assert_eq!(behind(&alone.clone().with_signatures(signed)), laid_out("0  0  2  1 2 3 4 1  0 0 0 5 0  1 0"));
+}
+
+/// Each kind is told, and bytes that end early, go on behind the end or begin with no kind are no attempt.
+#[test]
+fn each_kind_is_decoded() {
+    use Kind::*;
+    let kinds = [RegistryInception, RegistryRotation, Issue, Revoke, BackedIssue, BackedRevoke];
+    let vcp = vcp_of(said(1), 2, vec![ConfigTrait::EstOnly], backers(7, 9));
+    for (event, kind) in [vcp, vrt(), iss(), rev(), bis(), brv()].into_iter().zip(kinds) {
+        let bytes = Attempt::new(event).to_bytes().unwrap();
+        assert_eq!(decode(&bytes), Ok(kind));
+        let malformed = |bytes: &[u8]| assert_eq!(decode(bytes).unwrap_err().refusal, Refusal::Malformed, "{kind:?}");
+        (0..bytes.len()).for_each(|size| malformed(&bytes[..size]));
+        malformed(&[&bytes[..], &[0]].concat());
+        malformed(&[&[7], &bytes[1..]].concat());
+    }
 }
 
 #[test]

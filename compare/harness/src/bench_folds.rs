@@ -160,26 +160,24 @@ pub fn folds(rng: &mut Rng, rounds: usize) {
     table.print();
 }
 
-/// Decoding alone: an attempt with one byte too many is read to its end and then refused, by both.
+/// Decoding alone: an attempt is read to its end, and nothing is done with it.
 pub fn decoding(rng: &mut Rng, rounds: usize) {
     println!("### Decoding alone\n");
     let mut table = Table::new(&["attempt", "bytes", "ours, ns", "Rust's decoder, ns", "ratio"]);
     for (word, size) in [("small", SMALL), ("typical", TYPICAL), ("full", FULL)] {
         for kind in 1..=6 {
-            let mut bytes = Bytes::of(&scene(rng, kind, size, false));
-            bytes.attempt.push(0);
-            let mut buffer = [0; 700];
-            assert_eq!(host::registry_incept(&bytes.attempt, &mut buffer).number, 1);
-            assert!(decode::attempt(&bytes.attempt, &Verdicts, 0).is_none());
+            let bytes = Bytes::of(&scene(rng, kind, size, false));
+            assert_eq!(host::decode(&bytes.attempt).number, 0);
+            assert!(decode::attempt(&bytes.attempt, &Verdicts, 0).is_some());
             let (mut a, mut b, mut said, mut read) = (vec![], vec![], Vec::new(), Vec::new());
-            let n = calls(|| host::registry_incept(&bytes.attempt, &mut buffer));
+            let n = calls(|| host::decode(&bytes.attempt));
             for _ in 0..rounds {
-                a.push(round(n, &mut said, |_| host::registry_incept(&bytes.attempt, &mut buffer)));
+                a.push(round(n, &mut said, |_| host::decode(&bytes.attempt)));
                 b.push(round(n, &mut read, |_| decode::attempt(&bytes.attempt, &Verdicts, 0).is_none()));
             }
             let (ours, rust) = (median(a), median(b));
             let name = format!("{} {word}", NAMES[kind as usize]);
-            table.row(vec![name, (bytes.attempt.len() - 1).to_string(), ns(ours), ns(rust), times(rust, ours)]);
+            table.row(vec![name, bytes.attempt.len().to_string(), ns(ours), ns(rust), times(rust, ours)]);
         }
     }
     table.print();

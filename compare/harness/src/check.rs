@@ -1,7 +1,7 @@
 //! One case: the Rust's answer and ours, compared to the last byte. What is not to be written has to stay as it was.
 use crate::answer::{Answer, REPORT};
 use crate::host::Said;
-use crate::keys::Real;
+use crate::keys::{Real, Verdicts};
 use crate::make::Fold;
 use crate::random::Rng;
 use crate::{decode, encode, fold, host};
@@ -61,6 +61,7 @@ const NUMBERS: &[(&str, &[u8])] = &[
     ("registry_ingest", &[0, 1, 3, 7, 10, 14, 15, 16, 17, 18, 19, 20, 21, 25, 26, 27, 30]),
     ("credential_incept", &[0, 1, 8, 10, 12, 13, 18, 19, 20, 21, 22, 23, 26, 27, 30]),
     ("credential_ingest", &[0, 1, 9, 10, 12, 13, 15, 16, 17, 18, 19, 20, 21, 22, 23, 26, 27, 28, 30]),
+    ("decode", &[0, 1]),
     ("status", &[0, 1, 31, 32, 33, 34, 35, 36, 37, 38, 39]),
     ("exact", &[0, 26]),
     ("ample", &[0, 26]),
@@ -251,6 +252,18 @@ impl Checker {
         self.count(call, &expected);
         expected
     }
+    /// Whether bytes are an attempt. The first byte of one is its kind.
+    pub fn decode(&mut self, attempt: &[u8]) {
+        let read = decode::attempt(attempt, &Verdicts, 0);
+        let expected = if read.is_some() { Answer::accepted(&[attempt[0].into()]) } else { Answer::terminal(1) };
+        let mut said = host::decode(attempt);
+        Self::tampered(&mut self.tamper, &mut said, &mut []);
+        if let Err(what) = Self::same_report(&said, &expected) {
+            self.differs("decode", &[("attempt", attempt)], expected, &said, what);
+        }
+        self.count("decode", &expected);
+    }
+
     pub fn status(&mut self, input: &[u8]) {
         let expected = decode::status(input, &self.keys).map_or_else(|| Answer::terminal(1), |read| fold::status(&read));
         let mut said = host::status(input);

@@ -67,6 +67,11 @@ pub fn credential_ingest(registry: &[u8], credential: &[u8], attempt: &[u8], nex
 }
 
 #[inline]
+pub fn decode(attempt: &[u8]) -> Said {
+    Said::by(|r| unsafe { sys::jamfell_decode(attempt.as_ptr(), attempt.len(), r) })
+}
+
+#[inline]
 pub fn status(input: &[u8]) -> Said {
     Said::by(|r| unsafe { sys::jamfell_status(input.as_ptr(), input.len(), r) })
 }

@@ -94,6 +94,9 @@ fn folds(rng: &mut Rng, kind: u8, turn: u64, checker: &mut Checker, pairs: &mut 
             damaged(rng, &mut case);
         }
         checker.fold(&case);
+        if k % 8 < 4 {
+            checker.decode(&case.attempt);
+        }
     }
 }
 

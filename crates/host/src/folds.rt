@@ -1,6 +1,7 @@
-// The folds over bytes, `status` and thresholds.
+// The decoder, the folds over bytes, `status` and thresholds.
 use host_credential::credential_calls::credential_incept;
 use host_credential::credential_calls::credential_ingest;
+use host_decode::decode_calls::decode;
 use host_registry::registry_calls::registry_incept;
 use host_registry::registry_calls::registry_ingest;
 use host_status::status_calls::status;
@@ -8,9 +9,13 @@ use host_toad::toad_calls::ample;
 use host_toad::toad_calls::exact;
 ghost use mathlib.Core.Path.{_≡_};
 ghost use Rattle.events_toad.specs.Toads.{exactOf, ampleOf, toadNumber};
+ghost use Rattle.registry_error.specs.Errors.{answerNumber};
+ghost use Rattle.registry_wire.specs.Attempts.{decodeOf};
 ghost use Rattle.registry_credential.specs.Status.{statusOf, statusNumber};
 ghost use Rattle.host_toad.specs.ThresholdReports.{exactReport, ampleReport};
 ghost use Rattle.host_status.specs.StatusReports.{statusReport};
+ghost use Rattle.host_report.specs.Reports.{reportWith};
+ghost use Rattle.host_decode.specs.DecodeReports.{decodedAnswer, decodedValues};
 ghost use Rattle.host_next.specs.ByteFolds.{called, callOf};
 ghost use Rattle.host_registry.specs.RegistryByteFolds.{registryIncept, registryIngest};
 ghost use Rattle.host_credential.specs.CredentialByteFolds.{credentialIncept, credentialIngest};
@@ -65,6 +70,14 @@ pub extern "C" fn jamfell_credential_ingest(
     ensures { λ r. ⌜ called r (now (report .exit)) (now (next .exit)) ≡ callOf (credentialIngest (now (registry .entry)) (now (credential .entry)) (now (attempt .entry))) (now (next .entry)) ⌝ }
 {
     credential_ingest(registry, credential, attempt, next, report)
+}
+
+// Whether bytes are an attempt, and of which kind.
+#[no_mangle]
+pub extern "C" fn jamfell_decode(attempt: &[u8], report: &mut [u8; 36]) -> u8
+    ensures { λ r. ⌜ (r ≡ answerNumber (decodedAnswer (decodeOf (now (attempt .entry))))) × (now (report .exit) ≡ reportWith (decodedAnswer (decodeOf (now (attempt .entry)))) (decodedValues (decodeOf (now (attempt .entry))))) ⌝ }
+{
+    decode(attempt, report)
 }
 
 #[no_mangle]

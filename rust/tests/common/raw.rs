@@ -125,6 +125,11 @@ impl Host {
         (answer, self.out.bytes().to_vec())
     }
 
+    pub fn decode(&mut self, attempt: &[u8]) -> Answer {
+        let (at, size) = self.input(0, attempt);
+        self.call(1, |_, report| unsafe { sys::jamfell_decode(at, size, report) })
+    }
+
     pub fn status(&mut self, input: &[u8]) -> Answer {
         let (at, size) = self.input(0, input);
         self.call(0, |_, report| unsafe { sys::jamfell_status(at, size, report) })
