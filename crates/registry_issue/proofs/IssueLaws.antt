@@ -1,7 +1,7 @@
 -- The fold of a credential's issue over decoded attempts.
 --     iss-.., bis-..     the checks made one after the other: the first that refuses is the answer
 --     incept-at          the outcome of an answer and of what stands beside it
---     issue-refused, issue-owned   the same by whether the answer accepts: it decides, or the registry's own backers do
+--     answer-decides, own-decides   the same where the answer refuses, and where it accepts, so that the registry's own backers decide
 --     incept-decoded     the outcome of bytes that were decoded
 --     incept-malformed   the refusal 1
 use Prim.Native.Nat.{ℕ}
@@ -117,11 +117,11 @@ module _ (g : Registry) (s : List ℕ) (r : Issue) (t : Bool) (e : t ≡ accepts
   abbrev outcome : Answer → Outcome
   outcome x = record { answer = x; state = cond (accepts x) (record { registry = saidAt s (r .registry); credential = saidAt s (r .credential); sn = snZero; head = saidAt s (r .said) }) noCredential }
 
-  pub issue-refused : t ≡ false → issueAt g s r ≡ record { answer = r .answer; state = noCredential }
-  issue-refused h = ap outcome (or-refuses (r .answer) (r .answer) asked t refl e h) ∙ rw (sym e ∙ h)
+  pub answer-decides : t ≡ false → issueAt g s r ≡ record { answer = r .answer; state = noCredential }
+  answer-decides h = ap outcome (or-refuses (r .answer) (r .answer) asked t refl e h) ∙ rw (sym e ∙ h)
 
-  pub issue-owned : t ≡ true → (x : Answer) → x ≡ asked → issueAt g s r ≡ outcome x
-  issue-owned h x f = ap outcome (or-passes (r .answer) (r .answer) asked t refl e h ∙ sym f)
+  pub own-decides : t ≡ true → (x : Answer) → x ≡ asked → issueAt g s r ≡ outcome x
+  own-decides h x f = ap outcome (or-passes (r .answer) (r .answer) asked t refl e h ∙ sym f)
 
 pub incept-decoded : (well : Bool) (g : Registry) (s : List ℕ) (d : DecodedAttempt) → viewDecoded s d ≡ decodeOf s → well ≡ true → d .ok ≡ true → inceptIf well g s ≡ inceptMessage g (viewAttempt s (d .attempt))
 incept-decoded well g s d e w ok = judged-decoded (inceptDecoded g) _ refl s d e well w ok

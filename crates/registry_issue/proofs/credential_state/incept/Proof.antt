@@ -9,7 +9,7 @@ use Rattle.registry_state.specs.States.{Registry, viewRegistry}
 use Rattle.registry_state_credential.specs.CredentialStates.{noCredential}
 use Rattle.registry_answer.specs.Answers.{accepts}
 use Rattle.registry_issue.specs.IssueFolds.{issueAt, inceptIf, inceptOf}
-use Rattle.registry_issue.proofs.IssueLaws.{issue-refused, issue-owned}
+use Rattle.registry_issue.proofs.IssueLaws.{answer-decides, own-decides}
 use borrow.Author.Needs.{needs}
 use Rattle.registry_issue.proofs.credential_state.incept.Statement.{statement}
 use Rattle.registry_issue.proofs.credential_state.incept.Tie as tie
@@ -44,7 +44,7 @@ returns c =
     let read = b2 .before in
     let z = read .before .before .before .before .args in
     rw (c .none .ensures)
-    (sym (issue-refused (viewRegistry (z .g)) (now (z .s)) (read .incept-read .result) _ (b2 .accepts .ensures) (not-true _ (c .before .if1 .taken))) ∙ folded read)
+    (sym (answer-decides (viewRegistry (z .g)) (now (z .s)) (read .incept-read .result) _ (b2 .accepts .ensures) (not-true _ (c .before .if1 .taken))) ∙ folded read)
 
 own-of-requires : tie.Need-own-of-requires
 own-of-requires c κs = search needs
@@ -58,7 +58,7 @@ owned c =
     let b2 = c .before .before in
     let read = b2 .before in
     let z = read .before .before .before .before .args in
-    sym (issue-owned (viewRegistry (z .g)) (now (z .s)) (read .incept-read .result) _ (b2 .accepts .ensures) (not-false _ (c .before .if1 .left)) (c .own-of .result) (c .own-of .ensures)) ∙ folded read
+    sym (own-decides (viewRegistry (z .g)) (now (z .s)) (read .incept-read .result) _ (b2 .accepts .ensures) (not-false _ (c .before .if1 .left)) (c .own-of .result) (c .own-of .ensures)) ∙ folded read
 
 read-requires : tie.Need-read-requires
 read-requires c κs = search needs
