@@ -4,29 +4,31 @@
 --     issue-copied, revocation-copied   what they leave, copied from where it stands
 --     revocation-none     where one of the two is none
 use Prim.Native.Nat.{ℕ}
-use mathlib.Core.Path.{_≡_, refl, sym, ap, _∙_}
-use mathlib.Core.Bool.{Bool, true, false, _&&_, false≢true}
+use mathlib.Core.Path.{_≡_, refl, sym, ap}
+use mathlib.Core.Bool.{Bool, true, false, _&&_}
 use mathlib.Core.List.{List}
 use mathlib.Core.Option.{Option, none, some}
 use lib.Dec.{eqb}
 use lib.ListN.{length}
 use Rattle.codec_cursor.specs.declared.cursor.Cursor.{Cursor}
-use Rattle.codec_cursor.specs.Readers.{Read, starting, readIf, readSaid}
+use Rattle.codec_cursor.specs.Readers.{Read, starting}
 use Rattle.registry_state.specs.States.{Registry, readRegistry}
 use Rattle.registry_state_credential.specs.declared.state.CredentialState.{CredentialState}
 use Rattle.registry_issue.specs.IssueFolds as I
 use Rattle.registry_credential_state.specs.CredentialFolds as W
 use Rattle.cesr.specs.Primitives.{saidAt}
 use Rattle.events_tel.specs.TelEvents.{snZero, snOne}
-use Rattle.registry_state_credential.specs.CredentialStates.{readCredential, viewCredentialRead}
-use Rattle.registry_state_credential.specs.declared.state.CredentialRead.{CredentialRead}
+use Rattle.registry_state_credential.specs.CredentialStates.{credentialAt}
+use Rattle.registry_state_credential.specs.declared.state.CredentialAt.{CredentialAt}
 use Rattle.registry_state_credential.proofs.CodesCredential.{credential-head}
 use Rattle.registry_error.specs.declared.error.Answer.{Answer}
-use Rattle.registry_error.specs.declared.error.Answer.the-variants.{Accepted, Rejected}
+use Rattle.registry_error.specs.declared.error.Answer.the-variants.{Accepted}
 use Rattle.registry_answer.specs.Answers.{accepts}
 use Rattle.registry_issue.specs.declared.credential_state.Issue.{Issue}
+use Rattle.registry_credential_state.specs.CredentialParts.{revocationAnswer, revocationAt}
 use Rattle.registry_credential_state.specs.declared.credential_state.Revocation.{Revocation}
 use Rattle.host_next.specs.ByteFolds.{registryIn, credentialFolded, credentialCopied, noState}
+use Rattle.host_next.proofs.Calls.{is-accepted}
 use Rattle.host_credential.specs.CredentialByteFolds.{credentialIn, credentialIncept, ingestCredential, credentialIngest}
 
 -- bytes that the code finds to be no registry state, and ones that it finds to be one
@@ -48,23 +50,15 @@ module _ (s attempt : List ℕ) (g : Registry) (r : registryIn s ≡ some g) whe
   unfolding credentialIngest
   revocation k w q o e = rw (r, q, e)
 
-accepted-is : (x : Answer) → accepts x ≡ true → x ≡ Accepted
-accepted-is Accepted h = refl
-accepted-is (Rejected r) h = absurd (false≢true h)
+-- what an accepted fold leaves, copied from where it stands; x is its answer
+module _ (g : Registry) (s : List ℕ) (x : Answer) (h : accepts x ≡ true) where
+  pub issue-copied : (o : Issue) → x ≡ I.issueAnswer g s o → credentialCopied s (o .registry) (o .credential) snZero s (o .said) ≡ credentialFolded (I.issueAt g s o)
+  issue-copied o e =
+      rw (← e, ← is-accepted x h) (ap (λ (b : List ℕ). record { answer = Accepted; bytes = b }) (sym (credential-head (record { registry = saidAt s (o .registry); credential = saidAt s (o .credential); sn = snZero; head = saidAt s (o .said) }))))
 
--- what an accepted fold leaves, copied from where it stands
-pub issue-copied : (s : List ℕ) (o : Issue) → accepts (o .answer) ≡ true → credentialCopied s (o .registry) (o .credential) snZero s (o .said) ≡ credentialFolded (I.issueAt s o)
-issue-copied s o h =
-    rw (accepted-is (o .answer) h) (ap (λ (b : List ℕ). record { answer = Accepted; bytes = b }) (sym (credential-head (record { registry = saidAt s (o .registry); credential = saidAt s (o .credential); sn = snZero; head = saidAt s (o .said) }))))
-
-pub revocation-copied : (k s : List ℕ) (w : CredentialState) (n : ℕ) (o : Revocation) → accepts (o .answer) ≡ true → (w .registry ≡ saidAt k 0) × (w .credential ≡ saidAt k n) → credentialCopied k 0 n snOne s (o .said) ≡ credentialFolded (W.revocationAt w s o)
-revocation-copied k s w n o h p =
-    rw (accepted-is (o .answer) h, p .0, p .1) (ap (λ (b : List ℕ). record { answer = Accepted; bytes = b }) (sym (credential-head (record { registry = saidAt k 0; credential = saidAt k n; sn = snOne; head = saidAt s (o .said) }))))
-
--- where the parts of a credential state stand
-pub credential-places : (k : List ℕ) (r : CredentialRead) (c d : Cursor) → c ≡ starting → d ≡ readSaid k c .next → viewCredentialRead r ≡ readCredential k starting → (r .value .registry ≡ saidAt k 0) × (r .value .credential ≡ saidAt k (d .at))
-unfolding readCredential readSaid readIf
-credential-places k r c d b f e = (ap (λ (x : Read CredentialState). x .value .registry) e, ap (λ (x : Read CredentialState). x .value .credential) e ∙ rw (f, b))
+  pub revocation-copied : (k : List ℕ) (w : CredentialAt) (o : Revocation) → x ≡ revocationAnswer (g .toad) (g .backers) (credentialAt k w) s o → credentialCopied k (w .registry) (w .credential) snOne s (o .said) ≡ credentialFolded (revocationAt g (credentialAt k w) s o)
+  revocation-copied k w o e =
+      rw (← e, ← is-accepted x h) (ap (λ (b : List ℕ). record { answer = Accepted; bytes = b }) (sym (credential-head (record { registry = saidAt k (w .registry); credential = saidAt k (w .credential); sn = snOne; head = saidAt s (o .said) }))))
 
 pub revocation-none : (s k attempt : List ℕ) (x y : Bool) → (x ≡ false → registryIn s ≡ none) → (y ≡ false → credentialIn k ≡ none) → (x && y) ≡ false → credentialIngest s k attempt ≡ noState
 unfolding credentialIngest

@@ -12,9 +12,9 @@ use lib.ListN.{length}
 use Rattle.laws.specs.Number.{Bytes}
 use Rattle.codec_cursor.specs.declared.cursor.Cursor.{Cursor}
 use Rattle.codec_cursor.specs.Readers.{starting}
-use Rattle.registry_state_credential.specs.CredentialStates.{credentialBytes, goodCredential, readCredential, viewCredentialRead}
+use Rattle.registry_state_credential.specs.CredentialStates.{credentialBytes, goodCredential, readCredential, credentialAt, viewCredentialAt}
 use Rattle.registry_state_credential.specs.declared.state.CredentialState.{CredentialState}
-use Rattle.registry_state_credential.specs.declared.state.CredentialRead.{CredentialRead}
+use Rattle.registry_state_credential.specs.declared.state.CredentialAt.{CredentialAt}
 use Rattle.registry_state_credential.proofs.CodesCredential.{codes-credential}
 use Rattle.host_next.proofs.StatesIn.{whole-is}
 use Rattle.host_credential.specs.CredentialByteFolds.{credentialIn}
@@ -23,11 +23,11 @@ pub credential-is : (s : List ℕ) (w : CredentialState) → Bytes s → (creden
 unfolding credentialIn
 credential-is s w b = whole-is codes-credential s w b
 
-module _ (s : List ℕ) (c : Cursor) (t : Bool) (b : c ≡ starting) (r : CredentialRead) (e : viewCredentialRead r ≡ readCredential s c) (f : t ≡ (r .next .ok && eqb (r .next .at) (length s))) where
+module _ (s : List ℕ) (c : Cursor) (t : Bool) (b : c ≡ starting) (r : CredentialAt) (e : viewCredentialAt s r ≡ readCredential s c) (f : t ≡ (r .next .ok && eqb (r .next .at) (length s))) where
   pub credential-none : t ≡ false → credentialIn s ≡ none
   unfolding credentialIn
   credential-none h = rw (← b, ← e, ← f, h)
 
-  pub credential-some : t ≡ true → credentialIn s ≡ some (r .value)
+  pub credential-some : t ≡ true → credentialIn s ≡ some (credentialAt s r)
   unfolding credentialIn
   credential-some h = rw (← b, ← e, ← f, h)

@@ -3,6 +3,7 @@
 --     stored, kept    an answer that accepts, and one that refuses
 --     next-left       a fold that accepts, and a writer of its state that tests for room
 --     refused         a fold that refuses, whatever its state
+--     is-accepted     an answer that accepts
 use Prim.Native.Nat.{ℕ}
 use mathlib.Core.Path.{_≡_, refl, ap, sym, _∙_}
 use mathlib.Core.Bool.{Bool, true, false, false≢true}
@@ -44,6 +45,10 @@ pub refused : (f : Folded) (next : List ℕ) (x : Answer) (n : ℕ) (report : Li
 unfolding callOf answerIn
 refused f next Accepted n report e t h = absurd (false≢true (sym t))
 refused f next (Rejected r) n report e t h = rw (h .0, h .1, ← e)
+
+pub is-accepted : (x : Answer) → accepts x ≡ true → Accepted ≡ x
+is-accepted Accepted h = refl
+is-accepted (Rejected r) h = absurd (false≢true h)
 
 next-left-by : (bytes next left : List ℕ) (size n : ℕ) (report : List ℕ) (t : Bool) → leb (length bytes) (length next) ≡ t → size ≡ length bytes → (n ≡ answerNumber (acceptIf t ShortBuffer)) × (report ≡ sizedReport (acceptIf t ShortBuffer) size) → left ≡ put next 0 bytes → called n report left ≡ callOf (record { answer = Accepted; bytes = bytes }) next
 unfolding callOf answerIn acceptIf

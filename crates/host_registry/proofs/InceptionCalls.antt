@@ -2,10 +2,9 @@
 --     made            the bytes of its state
 --     incepted-next   an inception that accepts, by these bytes
 --     incept-answer   its answer
---     is-accepted     an answer that accepts
 use Prim.Native.Nat.{ℕ}
-use mathlib.Core.Path.{_≡_, refl, ap, sym}
-use mathlib.Core.Bool.{true, false≢true}
+use mathlib.Core.Path.{_≡_, ap, sym}
+use mathlib.Core.Bool.{true}
 use mathlib.Core.List.{List}
 use Rattle.codec_cursor.specs.declared.cursor.Cursor.{Cursor}
 use Rattle.codec_cursor.specs.Readers.{times}
@@ -15,21 +14,16 @@ use Rattle.registry_copy.specs.NextStates.{nextMembers, nextBytes}
 use Rattle.registry_copy.specs.declared.next.NextState.{NextState}
 use Rattle.registry_state.specs.States.{registryBytes}
 use Rattle.registry_state.proofs.StateLoops.{registry-head}
-use Rattle.registry_error.specs.declared.error.Answer.{Answer}
-use Rattle.registry_error.specs.declared.error.Answer.the-variants.{Accepted, Rejected}
 use Rattle.registry_answer.specs.Answers.{accepts}
 use Rattle.registry_inception.specs.InceptionFolds.{Outcome, inceptedAt, inceptionAt, inceptOf}
 use Rattle.registry_inception.specs.declared.registry.Inception.{Inception}
 use Rattle.host_next.specs.ByteFolds.{nextFolded}
+use Rattle.host_next.proofs.Calls.{is-accepted}
 use Rattle.host_registry.specs.RegistryByteFolds.{registryIncept}
 
 pub made : (s : List ℕ) (o : Inception) (c : Cursor) → nextBytes s s (record { id = o .said; issuer = o .issuer; sn = snZero; latest = o .said; toad = o .toad; configs = o .configs; current = record { count = 0; start = c }; cuts = record { count = 0; start = c }; additions = o .backers }) ≡ registryBytes (inceptedAt s o)
 unfolding nextBytes nextMembers updatedMembers survivors membersIn times inceptedAt
 made s o c = sym (registry-head (inceptedAt s o))
-
-pub is-accepted : (x : Answer) → accepts x ≡ true → Accepted ≡ x
-is-accepted Accepted h = refl
-is-accepted (Rejected r) h = absurd (false≢true h)
 
 module _ (s : List ℕ) (o : Inception) (e : inceptionAt s o ≡ inceptOf s) where
   pub incepted-next : (p : NextState) → accepts (o .answer) ≡ true → nextBytes s s p ≡ registryBytes (inceptedAt s o) → nextFolded s s p ≡ registryIncept s

@@ -23,7 +23,7 @@ use Rattle.registry_rotation_read.specs.Rotations.{rotatedAt, rotationAt}
 use Rattle.registry_rotation_read.specs.declared.rotation.RotationRead.{RotationRead}
 use Rattle.host_next.specs.ByteFolds.{registryIn, nextFolded}
 use Rattle.host_registry.specs.RegistryByteFolds.{registryIngest}
-use Rattle.host_registry.proofs.InceptionCalls.{is-accepted}
+use Rattle.host_next.proofs.Calls.{is-accepted}
 
 pub made-rotated : (g : Management) (current : Listed) (o : RotationRead) (held s : List ℕ) → readMatter held 0 ≡ g .id .0 → readMatter held 33 ≡ g .issuer → nextBytes held s (record { id = 0; issuer = 33; sn = o .sn; latest = o .latest; toad = o .toad; configs = g .configs; current = current; cuts = o .cuts; additions = o .additions }) ≡ registryBytes (rotatedAt (viewManagement g (membersIn held current)) s o)
 unfolding nextBytes nextMembers rotatedAt

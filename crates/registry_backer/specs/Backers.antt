@@ -1,7 +1,7 @@
 -- The authority of a bis or brv, and its receipts (docs/RULES.md, "Evidence", "Receipts").
 use Prim.Native.Nat.{ℕ}
 use mathlib.Core.List.{List, [], _∷_}
-use mathlib.Core.Bool.{Bool, false, _&&_}
+use mathlib.Core.Bool.{Bool, true, false, cond, _&&_}
 use lib.Dec.{eqb, leb}
 use lib.ListN.{length}
 use Rattle.laws.specs.Words.{sameList}
@@ -22,7 +22,7 @@ use Rattle.registry_wire.specs.Attempts.{Evidence}
 use Rattle.registry_wire.specs.Attempts.Evidence.{missing, issuer, backer, backerAt}
 use Rattle.registry_error.specs.declared.error.RegistryRejection.the-variants.{InconsistentRegistry, InconsistentIssuer, InconsistentManagement, UnresolvedAnchor, BackerThreshold, MissingBackerReceipts}
 use Rattle.registry_error.specs.declared.error.Answer.{Answer}
-use Rattle.registry_error.specs.declared.error.Answer.the-variants.{Rejected}
+use Rattle.registry_error.specs.declared.error.Answer.the-variants.{Accepted, Rejected}
 use Rattle.registry_answer.specs.Answers.{acceptIf, backerSet, orElse, firstOf}
 use Rattle.registry_verification.specs.Receipts.{receipts}
 
@@ -90,3 +90,27 @@ backedBy toad backers l =
 -- 22 to 27 of bis and brv
 unfoldable pub authenticateBacker : Registry → Seal → Evidence → List Signature → Answer
 authenticateBacker g seal e l = firstOf (resolved g seal e ∷ backedBy (authority g e .toad) (authority g e .backers) l ∷ [])
+
+-- The same in two parts, since the code has the registry's own backers only where a caller has their list.
+
+-- 24, 26, 27 of the state that BackerAt carries
+abbrev pub carriedBacked : Evidence → List Signature → Answer
+carriedBacked missing l = Accepted
+carriedBacked (issuer prefix anchor) l = Accepted
+carriedBacked backer l = Accepted
+carriedBacked (backerAt h) l = backedBy (h .toad) (h .backers) l
+
+-- 22 to 27, but for the registry's own backers
+unfoldable pub resolvedBacker : Registry → Seal → Evidence → List Signature → Answer
+resolvedBacker g seal e l = firstOf (resolved g seal e ∷ carriedBacked e l ∷ [])
+
+-- the evidence that leaves the registry's own backers to be asked about: the first two are refused, and the last has backers of its own
+abbrev pub asksOwn : Evidence → Bool
+asksOwn missing = false
+asksOwn (issuer prefix anchor) = false
+asksOwn backer = true
+asksOwn (backerAt h) = false
+
+-- 24, 26, 27 of the registry's own toad and backers, where they are asked about
+unfoldable pub ownWhere : Bool → ℕ → List BasicPrefix → List Signature → Answer
+ownWhere own toad backers l = cond own (backedBy toad backers l) Accepted

@@ -2,7 +2,9 @@
 use cesr::primitive::Said;
 use cesr_sn::number::Sn;
 use codec_cursor::cursor::Cursor;
+use events::member_set::Members;
 use events_seal::seal::Seal;
+use events_tel::tel::Listed;
 use events_toad::toad::Toad;
 use registry_answer::answer::accept_if;
 use registry_answer::answer::accepts;
@@ -12,6 +14,7 @@ use registry_error::error::RegistryRejection;
 use registry_management::management::Backing;
 use registry_management::management::Management;
 use registry_management::management::backing_in;
+use registry_management::management::backing_of;
 use registry_management::management::read_management;
 use registry_signatures::signatures::Counted;
 use registry_verification::verification::valid_receipts;
@@ -20,11 +23,13 @@ ghost use mathlib.Core.Path.{_≡_};
 ghost use mathlib.Core.List.{List};
 ghost use Rattle.cesr.specs.declared.primitive.Matter.{Matter};
 ghost use Rattle.cesr.specs.declared.primitive.BasicPrefix.{BasicPrefix};
+ghost use Rattle.events.specs.Members.{view};
+ghost use Rattle.events_tel.specs.TelEvents.{membersIn};
 ghost use Rattle.registry_management.specs.Managements.{viewManagement, Backs};
 ghost use Rattle.registry_wire.specs.Attempts.{evidenceOf, evidenceAs};
 ghost use Rattle.registry_signatures.specs.SignatureSections.{signaturesIn};
 ghost use Rattle.registry_wire.specs.declared.attempt.Part.{Part};
-ghost use Rattle.registry_backer.specs.Backers.{sameRegistry, standsAt, resolvedBy, namesRegistry, resolved, enoughReceipts, backedBy, authenticateBacker};
+ghost use Rattle.registry_backer.specs.Backers.{sameRegistry, standsAt, resolvedBy, namesRegistry, resolved, enoughReceipts, backedBy, resolvedBacker, ownWhere};
 
 // Whether two states are of one registry: id, issuer and config are the same.
 pub fn same_registry(g: Management, h: Management) -> bool
@@ -109,7 +114,7 @@ pub fn enough_receipts(s: &[u8], signatures: Counted, backers: usize, toad: Toad
 }
 
 // The rules on the authority's backers and toad, and its receipts.
-pub fn backed_by(s: &[u8], signatures: Counted, backers: Backing, toad: Toad) -> Answer
+fn backed_by(s: &[u8], signatures: Counted, backers: Backing, toad: Toad) -> Answer
     ensures { λ r. ⌜ ((l : List BasicPrefix) → Backs backers l → r ≡ backedBy (toad .0) l (signaturesIn (now (s .entry)) signatures)) ⌝ }
 {
     let repeat = backers.members;
@@ -124,6 +129,42 @@ pub fn backed_by(s: &[u8], signatures: Counted, backers: Backing, toad: Toad) ->
     enough_receipts(s, signatures, count, toad)
 }
 
+// The same of backers that stand in bytes.
+fn backed_in(s: &[u8], signatures: Counted, held: &[u8], backers: Listed, toad: Toad) -> Answer
+    ensures { λ r. ⌜ r ≡ backedBy (toad .0) (membersIn (now (held .entry)) backers) (signaturesIn (now (s .entry)) signatures) ⌝ }
+{
+    let backing = backing_in(held, backers);
+    backed_by(s, signatures, backing, toad)
+}
+
+// The rules on the registry's own backers, where they are asked about, over the bytes that its state is held in.
+pub fn own_in(
+    own: bool,
+    s: &[u8],
+    signatures: Counted,
+    held: &[u8],
+    backers: Listed,
+    toad: Toad,
+) -> Answer
+    ensures { λ r. ⌜ r ≡ ownWhere own (toad .0) (membersIn (now (held .entry)) backers) (signaturesIn (now (s .entry)) signatures) ⌝ }
+{
+    if own {
+        return backed_in(s, signatures, held, backers, toad);
+    }
+    Answer::Accepted
+}
+
+// The same of a list.
+pub fn own_of(own: bool, s: &[u8], signatures: Counted, backers: Members, toad: Toad) -> Answer
+    ensures { λ r. ⌜ r ≡ ownWhere own (toad .0) (view backers) (signaturesIn (now (s .entry)) signatures) ⌝ }
+{
+    if !own {
+        return Answer::Accepted;
+    }
+    let backing = backing_of(backers);
+    backed_by(s, signatures, backing, toad)
+}
+
 // The authority that BackerAt's state is, which is read from its place in the bytes.
 fn backed_at(
     s: &[u8],
@@ -134,35 +175,29 @@ fn backed_at(
     management: Cursor,
 ) -> Answer
     requires { ⌜ evidence ≡ 3 ⌝ }
-    ensures { λ r. ⌜ ((p : Matter) (c : Part) (l : List BasicPrefix) → r ≡ authenticateBacker (viewManagement g l) seal (evidenceAs (now (s .entry)) evidence p c management) (signaturesIn (now (s .entry)) signatures)) ⌝ }
+    ensures { λ r. ⌜ ((p : Matter) (c : Part) (l : List BasicPrefix) → r ≡ resolvedBacker (viewManagement g l) seal (evidenceAs (now (s .entry)) evidence p c management) (signaturesIn (now (s .entry)) signatures)) ⌝ }
 {
     let held = read_management(management, s);
     let found = resolved(g, seal, evidence, held.value);
     if !accepts(found) {
         return found;
     }
-    let backing = backing_in(s, held.backers);
-    backed_by(s, signatures, backing, held.value.toad)
+    backed_in(s, signatures, s, held.backers, held.value.toad)
 }
 
-// The authority that the event's seal and the evidence name, and what it must have signed.
+// The authority that the event's seal and the evidence name, and what it must have signed, but for the registry's own backers: their list is the caller's.
 pub fn authenticate_backer(
     s: &[u8],
     signatures: Counted,
     g: Management,
-    backers: Backing,
     seal: Seal,
     evidence: u8,
     management: Cursor,
 ) -> Answer
-    ensures { λ r. ⌜ ((p : Matter) (c : Part) (l : List BasicPrefix) → Backs backers l → r ≡ authenticateBacker (viewManagement g l) seal (evidenceAs (now (s .entry)) evidence p c management) (signaturesIn (now (s .entry)) signatures)) ⌝ }
+    ensures { λ r. ⌜ ((p : Matter) (c : Part) (l : List BasicPrefix) → r ≡ resolvedBacker (viewManagement g l) seal (evidenceAs (now (s .entry)) evidence p c management) (signaturesIn (now (s .entry)) signatures)) ⌝ }
 {
     if evidence == 3 {
         return backed_at(s, signatures, g, seal, evidence, management);
     }
-    let found = resolved(g, seal, evidence, g);
-    if !accepts(found) {
-        return found;
-    }
-    backed_by(s, signatures, backers, g.toad)
+    resolved(g, seal, evidence, g)
 }

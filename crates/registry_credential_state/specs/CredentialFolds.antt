@@ -2,7 +2,7 @@
 use Prim.Native.Nat.{ℕ}
 use mathlib.Core.List.{List, [], _∷_}
 use mathlib.Core.Bool.{Bool, not, cond, _&&_}
-use Rattle.cesr.specs.Primitives.{eqSaid, saidAt}
+use Rattle.cesr.specs.Primitives.{eqSaid}
 use Rattle.cesr.specs.declared.primitive.Said.{Said}
 use Rattle.events_tel.specs.TelEvents.{Event, snOne}
 use Rattle.events_tel.specs.TelEvents.Event.{vcp, vrt, iss, rev, bis, brv}
@@ -21,7 +21,6 @@ use Rattle.registry_authentication.specs.Issuers.{anchored, authenticateIssuer}
 use Rattle.registry_backer.specs.Backers.{isBackerless, namesRegistry, authenticateBacker}
 use Rattle.registry_transition.specs.Transitions.{transition}
 use Rattle.registry_issue.specs.IssueFolds.{Outcome}
-use Rattle.registry_credential_state.specs.declared.credential_state.Revocation.{Revocation}
 
 -- a rev after 9: 10, 12, 18 to 21, 28, 15 to 17
 unfoldable pub revAnswer : Registry → CredentialState → Said → Said → Said → Said → Message → Answer
@@ -84,8 +83,3 @@ ingestIf well g w s = cond well (ingestDecoded g w (decodeOf s)) (record { answe
 
 unfoldable pub ingestOf : RegistryState → CredentialState → List ℕ → Outcome
 ingestOf g w s = ingestIf (wellRegistry g && wellCredential w) (viewRegistry g) w s
-
--- what an answer and the place of its event's digest stand for
-abbrev pub revocationAt : CredentialState → List ℕ → Revocation → Outcome
-revocationAt w s r =
-    record { answer = r .answer; state = cond (accepts (r .answer)) (record { registry = w .registry; credential = w .credential; sn = snOne; head = saidAt s (r .said) }) w }

@@ -1,1 +1,2 @@
 pub mod CredentialFolds
+pub mod CredentialParts

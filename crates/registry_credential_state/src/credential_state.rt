@@ -1,44 +1,52 @@
 // The fold of a credential's next event, its revocation (docs/RULES.md, "Orders", "Next states").
 use cesr::primitive::Said;
 use cesr_sn::number::Sn;
+use events::member_set::Members;
 use events_tel::tel::Kind;
+use events_toad::toad::Toad;
 use registry_answer::answer::accepts;
 use registry_authentication::issuer::authenticate_issuer;
 use registry_authentication::issuer::message_anchored;
 use registry_backer::backer::authenticate_backer;
 use registry_backer::backer::names_registry;
+use registry_backer::backer::own_of;
 use registry_error::error::Answer;
 use registry_error::error::RegistryRejection;
 use registry_issue::credential_state::CredentialOutcome;
-use registry_management::management::Backing;
 use registry_management::management::Management;
-use registry_management::management::backing_of;
 use registry_management::management::management_of;
+use registry_signatures::signatures::Counted;
 use registry_state::state::RegistryState;
 use registry_state_credential::state::CredentialState;
 use registry_transition::transition::transition;
 use registry_wire::attempt::Attempt;
 ghost use mathlib.Core.Path.{_≡_};
 ghost use mathlib.Core.List.{List};
-ghost use Rattle.cesr.specs.Primitives.{saidAt};
-ghost use Rattle.events_tel.specs.TelEvents.{viewEvent};
+ghost use Rattle.cesr.specs.Primitives.{saidAt, eqSaid};
 ghost use Rattle.cesr.specs.declared.primitive.BasicPrefix.{BasicPrefix};
-ghost use Rattle.registry_management.specs.Managements.{viewManagement, Backs};
+ghost use Rattle.events.specs.Members.{view};
+ghost use Rattle.events_tel.specs.TelEvents.{viewEvent};
+ghost use Rattle.registry_management.specs.Managements.{viewManagement};
 ghost use Rattle.registry_wire.specs.Attempts.{viewAttempt};
 ghost use Rattle.registry_authentication.specs.Issuers.{Anchored};
 ghost use Rattle.registry_issue.specs.IssueFolds.{viewOutcome};
-ghost use Rattle.registry_credential_state.specs.CredentialFolds.{revAnswer, brvAnswer, ingestEvent, ingestAnswer, revocationAt, ingestIf, ingestOf};
+ghost use Rattle.registry_credential_state.specs.CredentialFolds.{ingestIf, ingestOf};
+ghost use Rattle.registry_credential_state.specs.CredentialParts.{revResolved, brvResolved, eventResolved, ingestResolved, revocationAnswer, revocationAt};
 
-// An answer to a revocation, and where the digest of its event stands. The place means something where the answer accepts.
+// An answer to a revocation, but for what its callers have: the list of the registry's own backers, and the held state. Beside it stands whether those backers are asked about, and where what is compared and kept stands in the attempt's bytes. The places mean something where the answer accepts.
 pub struct Revocation {
     pub answer: Answer,
+    pub own: bool,
+    pub signatures: Counted,
+    pub credential: usize,
+    pub prior: usize,
     pub said: usize,
 }
 
 // A rev's checks behind its kind. Each that refuses is returned, since an answer is copied wherever it is joined to another.
-fn rev_answer(g: Management, w: CredentialState, a: Attempt, s: &[u8]) -> Answer
+fn rev_answer(g: Management, a: Attempt, s: &[u8]) -> Answer
     requires { ⌜ Anchored (now s) a ⌝ }
-    ensures { λ r. ⌜ ((l : List BasicPrefix) → r ≡ revAnswer (viewManagement g l) w (saidAt (now (s .entry)) (a .event .said)) (saidAt (now (s .entry)) (a .event .credential)) (saidAt (now (s .entry)) (a .event .registry)) (saidAt (now (s .entry)) (a .event .prior)) (viewAttempt (now (s .entry)) a)) ⌝ }
+    ensures { λ r. ⌜ ((l : List BasicPrefix) → r ≡ revResolved (viewManagement g l) (saidAt (now (s .entry)) (a .event .said)) (saidAt (now (s .entry)) (a .event .credential)) (saidAt (now (s .entry)) (a .event .registry)) (viewAttempt (now (s .entry)) a)) ⌝ }
 {
     let one = Sn { hi: 0, lo: 1 };
     let id = g.id.0;
@@ -49,7 +57,7 @@ fn rev_answer(g: Management, w: CredentialState, a: Attempt, s: &[u8]) -> Answer
         return Answer::Rejected(RegistryRejection::SimpleEventOnBackerRegistry);
     }
     let credential = Said::read(s, a.event.credential);
-    let anchor = authenticate_issuer(
+    authenticate_issuer(
         s,
         a.event.said,
         a.sources,
@@ -61,17 +69,13 @@ fn rev_answer(g: Management, w: CredentialState, a: Attempt, s: &[u8]) -> Answer
         g.issuer,
         credential,
         one,
-    );
-    if !accepts(anchor) {
-        return anchor;
-    }
-    transition(w, credential, Said::read(s, a.event.prior))
+    )
 }
 
 // A brv's checks behind its kind.
-fn brv_answer(g: Management, backers: Backing, w: CredentialState, a: Attempt, s: &[u8]) -> Answer
+fn brv_answer(g: Management, a: Attempt, s: &[u8]) -> Answer
     requires { ⌜ Anchored (now s) a ⌝ }
-    ensures { λ r. ⌜ ((l : List BasicPrefix) → Backs backers l → r ≡ brvAnswer (viewManagement g l) w (saidAt (now (s .entry)) (a .event .said)) (saidAt (now (s .entry)) (a .event .credential)) (saidAt (now (s .entry)) (a .event .prior)) (a .event .seal) (viewAttempt (now (s .entry)) a)) ⌝ }
+    ensures { λ r. ⌜ ((l : List BasicPrefix) → r ≡ brvResolved (viewManagement g l) (saidAt (now (s .entry)) (a .event .said)) (saidAt (now (s .entry)) (a .event .credential)) (a .event .seal) (viewAttempt (now (s .entry)) a)) ⌝ }
 {
     let one = Sn { hi: 0, lo: 1 };
     let e = a.event;
@@ -96,16 +100,12 @@ fn brv_answer(g: Management, backers: Backing, w: CredentialState, a: Attempt, s
     if !accepts(anchor) {
         return anchor;
     }
-    let backed = authenticate_backer(s, a.signatures, g, backers, seal, a.evidence, a.management);
-    if !accepts(backed) {
-        return backed;
-    }
-    transition(w, credential, Said::read(s, a.event.prior))
+    authenticate_backer(s, a.signatures, g, seal, a.evidence, a.management)
 }
 
-fn ingest_event(g: Management, backers: Backing, w: CredentialState, a: Attempt, s: &[u8]) -> Answer
+fn ingest_event(g: Management, a: Attempt, s: &[u8]) -> Answer
     requires { ⌜ Anchored (now s) a ⌝ }
-    ensures { λ r. ⌜ ((l : List BasicPrefix) → Backs backers l → r ≡ ingestEvent (viewManagement g l) w (viewEvent (now (s .entry)) (a .event)) (viewAttempt (now (s .entry)) a)) ⌝ }
+    ensures { λ r. ⌜ ((l : List BasicPrefix) → r ≡ eventResolved (viewManagement g l) (viewEvent (now (s .entry)) (a .event)) (viewAttempt (now (s .entry)) a)) ⌝ }
 {
     let e = a.event;
     let kind = e.kind;
@@ -113,48 +113,66 @@ fn ingest_event(g: Management, backers: Backing, w: CredentialState, a: Attempt,
         Kind::Vcp => Answer::Rejected(RegistryRejection::NotCredentialTransition),
         Kind::Vrt => Answer::Rejected(RegistryRejection::NotCredentialTransition),
         Kind::Iss => Answer::Rejected(RegistryRejection::NotCredentialTransition),
-        Kind::Rev => rev_answer(g, w, a, s),
+        Kind::Rev => rev_answer(g, a, s),
         Kind::Bis => Answer::Rejected(RegistryRejection::NotCredentialTransition),
-        Kind::Brv => brv_answer(g, backers, w, a, s),
+        Kind::Brv => brv_answer(g, a, s),
     }
 }
 
-fn ingest_answer(
-    g: Management,
-    backers: Backing,
-    w: CredentialState,
-    a: Attempt,
-    s: &[u8],
-) -> Answer
+fn ingest_answer(held: bool, g: Management, a: Attempt, s: &[u8]) -> Answer
     requires { ⌜ Anchored (now s) a ⌝ }
-    ensures { λ r. ⌜ ((l : List BasicPrefix) → Backs backers l → r ≡ ingestAnswer (viewManagement g l) w (viewAttempt (now (s .entry)) a)) ⌝ }
+    ensures { λ r. ⌜ ((l : List BasicPrefix) → r ≡ ingestResolved held (viewManagement g l) (viewAttempt (now (s .entry)) a)) ⌝ }
 {
-    if !w.registry.same(g.id) {
+    if !held {
         return Answer::Rejected(RegistryRejection::InconsistentRegistry);
     }
-    ingest_event(g, backers, w, a, s)
+    ingest_event(g, a, s)
 }
 
-// The next event of a credential under a registry in two parts, whether both states are well formed or not. It stays in its bytes.
-pub fn ingest_read(
-    well: bool,
-    g: Management,
-    backers: Backing,
-    w: CredentialState,
-    s: &[u8],
-) -> Revocation
-    ensures { λ r. ⌜ ((l : List BasicPrefix) → Backs backers l → revocationAt w (now (s .entry)) r ≡ ingestIf well (viewManagement g l) w (now (s .entry))) ⌝ }
+// The next event of a credential under a registry whose backers are its callers', whether both states are well formed or not. Of the held state it asks only whether it is of the registry. There are states of which that is true and ones of which it is not, so the contract says something of either answer. The event stays in its bytes.
+pub fn ingest_read(well: bool, held: bool, g: Management, s: &[u8]) -> Revocation
+    ensures { λ r. ⌜ ((l : List BasicPrefix) (w : CredentialState) → held ≡ eqSaid (w .registry) (g .id) → revocationAt (viewManagement g l) w (now (s .entry)) r ≡ ingestIf well (viewManagement g l) w (now (s .entry))) ⌝ }
 {
     let d = Attempt::decode(s);
     if well & d.ok {
-        let answer = ingest_answer(g, backers, w, d.attempt, s);
+        let answer = ingest_answer(held, g, d.attempt, s);
+        let own = d.attempt.evidence == 2;
+        let signatures = d.attempt.signatures;
+        let credential = d.attempt.event.credential;
+        let prior = d.attempt.event.prior;
         let said = d.attempt.event.said;
-        return Revocation { answer, said };
+        return Revocation {
+            answer,
+            own,
+            signatures,
+            credential,
+            prior,
+            said,
+        };
     }
     Revocation {
         answer: Answer::Rejected(RegistryRejection::Malformed),
+        own: false,
+        signatures: Counted { from: 0, count: 0 },
+        credential: 0,
+        prior: 0,
         said: 0,
     }
+}
+
+// What an answer comes to with the registry's toad and backers and with the held state.
+fn whole_answer(r: Revocation, toad: Toad, backers: Members, w: CredentialState, s: &[u8]) -> Answer
+    ensures { λ x. ⌜ x ≡ revocationAnswer (toad .0) (view backers) w (now (s .entry)) r ⌝ }
+{
+    let answer = r.answer;
+    if !accepts(answer) {
+        return answer;
+    }
+    let own = own_of(r.own, s, r.signatures, backers, toad);
+    if !accepts(own) {
+        return own;
+    }
+    transition(w, Said::read(s, r.credential), Said::read(s, r.prior))
 }
 
 // The next event of a credential: a revocation.
@@ -162,9 +180,8 @@ pub fn ingest(g: RegistryState, w: CredentialState, s: &[u8]) -> CredentialOutco
     ensures { λ r. ⌜ viewOutcome r ≡ ingestOf g w (now (s .entry)) ⌝ }
 {
     let well = g.well_formed() & w.well_formed();
-    let backers = backing_of(g.backers);
-    let r = ingest_read(well, management_of(g), backers, w, s);
-    let answer = r.answer;
+    let r = ingest_read(well, w.registry.same(g.id), management_of(g), s);
+    let answer = whole_answer(r, g.toad, g.backers, w, s);
     if accepts(answer) {
         let registry = w.registry;
         let credential = w.credential;

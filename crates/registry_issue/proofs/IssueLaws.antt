@@ -1,13 +1,16 @@
 -- The fold of a credential's issue over decoded attempts.
 --     iss-.., bis-..     the checks made one after the other: the first that refuses is the answer
---     incept-at          the outcome of an answer and of the places that stand beside it
+--     incept-at          the outcome of an answer and of what stands beside it
+--     answer-decides, own-decides   the same where the answer refuses, and where it accepts, so that the registry's own backers decide
 --     incept-decoded     the outcome of bytes that were decoded
 --     incept-malformed   the refusal 1
 use Prim.Native.Nat.{ℕ}
 use mathlib.Core.Path.{_≡_, refl, sym, ap, _∙_}
 use mathlib.Core.List.{List, [], _∷_}
 use mathlib.Core.Bool.{Bool, true, false, cond, _&&_, false≢true}
-use Rattle.registry_state.specs.States.{Registry}
+use lib.Dec.{eqb}
+use Rattle.registry_signatures.specs.SignatureSections.{signaturesIn}
+use Rattle.registry_state.specs.States.{Registry, readRegistry}
 use Rattle.registry_state_credential.specs.CredentialStates.{noCredential}
 use Rattle.registry_state_credential.specs.declared.state.CredentialState.{CredentialState}
 use Rattle.registry_wire.specs.Attempts.{Message, viewAttempt, viewDecoded, decodeOf}
@@ -15,10 +18,11 @@ use Rattle.registry_wire.specs.declared.attempt.Attempt.{Attempt}
 use Rattle.registry_wire.specs.declared.attempt.DecodedAttempt.{DecodedAttempt}
 use Rattle.registry_authentication.proofs.AnchorUse.{judged-decoded, judged-malformed}
 use Rattle.registry_answer.specs.Answers.{accepts, acceptIf, firstOf}
-use Rattle.registry_answer.proofs.AnswerLaws.{or-first, passed, first-refused, first-accepted, first-last}
+use Rattle.registry_answer.proofs.AnswerLaws.{or-first, passed, or-passes, or-refuses, first-refused, first-accepted, first-last}
 use Rattle.registry_authentication.specs.Issuers.{anchored, authenticateIssuer}
-use Rattle.registry_backer.specs.Backers.{isBackerless, authenticateBacker}
-use Rattle.cesr.specs.Primitives.{eqSaid, saidAt}
+use Rattle.registry_backer.specs.Backers.{isBackerless, resolvedBacker, ownWhere}
+use Rattle.registry_backer.proofs.AuthorityLaws.{asked-by}
+use Rattle.cesr.specs.Primitives.{eqSaid, saidAt, readMatter}
 use Rattle.cesr.proofs.Matters.{said-eq}
 use Rattle.cesr.specs.declared.primitive.Said.{Said}
 use Rattle.events_tel.specs.TelEvents.{snZero, eventAs, viewEvent}
@@ -29,8 +33,10 @@ use Rattle.events_seal.specs.declared.seal.Seal.{Seal}
 use Rattle.registry_error.specs.declared.error.Answer.{Answer}
 use Rattle.registry_error.specs.declared.error.Answer.the-variants.{Rejected}
 use Rattle.registry_error.specs.declared.error.RegistryRejection.the-variants.{Malformed, InconsistentRegistry, SimpleEventOnBackerRegistry, BackedEventOnBackerlessRegistry}
-use Rattle.registry_issue.specs.IssueFolds.{issAnswer, bisAnswer, inceptEvent, issued, issueAt, inceptMessage, inceptDecoded, inceptIf}
+use Rattle.registry_issue.specs.IssueFolds.{Outcome, issAnswer, bisAnswer, inceptEvent, issued, issueAnswer, issueAt, inceptMessage, inceptDecoded, inceptIf}
+use Rattle.registry_issue.specs.IssueParts.{bisResolved, inceptResolved}
 use Rattle.registry_issue.specs.declared.credential_state.Issue.{Issue}
+use Rattle.registry_issue.proofs.OwnLaws.{incept-parts}
 
 module _ (g : Registry) (said credential registry : Said) (m : Message) where
   pub iss-routed : eqSaid registry (g .id) ≡ false → Rejected InconsistentRegistry ≡ issAnswer g said credential registry m
@@ -50,24 +56,24 @@ module _ (g : Registry) (said credential registry : Said) (m : Message) where
     anchor = anchored (g .issuer) credential snZero said (m .source) (m .anchor)
 
     abbrev authority : Answer
-    authority = authenticateBacker g seal (m .evidence) (m .signatures)
+    authority = resolvedBacker g seal (m .evidence) (m .signatures)
 
-    pub bis-routed : eqSaid registry (g .id) ≡ false → Rejected InconsistentRegistry ≡ bisAnswer g said credential registry seal m
-    unfolding bisAnswer firstOf acceptIf
+    pub bis-routed : eqSaid registry (g .id) ≡ false → Rejected InconsistentRegistry ≡ bisResolved g said credential registry seal m
+    unfolding bisResolved firstOf acceptIf
     bis-routed h = rw h
 
-    pub bis-flavor : eqSaid registry (g .id) ≡ true → isBackerless g ≡ true → Rejected BackedEventOnBackerlessRegistry ≡ bisAnswer g said credential registry seal m
-    unfolding bisAnswer firstOf acceptIf
+    pub bis-flavor : eqSaid registry (g .id) ≡ true → isBackerless g ≡ true → Rejected BackedEventOnBackerlessRegistry ≡ bisResolved g said credential registry seal m
+    unfolding bisResolved firstOf acceptIf
     bis-flavor h k = rw (h, k)
 
-    bis-passed : eqSaid registry (g .id) ≡ true → isBackerless g ≡ false → bisAnswer g said credential registry seal m ≡ firstOf (anchor ∷ (authority ∷ []))
-    unfolding bisAnswer firstOf acceptIf
+    bis-passed : eqSaid registry (g .id) ≡ true → isBackerless g ≡ false → bisResolved g said credential registry seal m ≡ firstOf (anchor ∷ (authority ∷ []))
+    unfolding bisResolved firstOf acceptIf
     bis-passed h k = rw (h, k)
 
-    pub bis-anchor : eqSaid registry (g .id) ≡ true → isBackerless g ≡ false → (x : Answer) → x ≡ anchor → accepts x ≡ false → x ≡ bisAnswer g said credential registry seal m
+    pub bis-anchor : eqSaid registry (g .id) ≡ true → isBackerless g ≡ false → (x : Answer) → x ≡ anchor → accepts x ≡ false → x ≡ bisResolved g said credential registry seal m
     bis-anchor h k x e z = e ∙ sym (bis-passed h k ∙ first-refused anchor (authority ∷ []) (ap accepts (sym e) ∙ z))
 
-    pub bis-backed : eqSaid registry (g .id) ≡ true → isBackerless g ≡ false → (x y : Answer) → x ≡ anchor → accepts x ≡ true → y ≡ authority → y ≡ bisAnswer g said credential registry seal m
+    pub bis-backed : eqSaid registry (g .id) ≡ true → isBackerless g ≡ false → (x y : Answer) → x ≡ anchor → accepts x ≡ true → y ≡ authority → y ≡ bisResolved g said credential registry seal m
     bis-backed h k x y e z f = f ∙ sym (bis-passed h k ∙ first-accepted anchor (authority ∷ []) (ap accepts (sym e) ∙ z) ∙ first-last authority)
 
 -- what is accepted is an iss or a bis, under the registry that it names
@@ -80,14 +86,42 @@ issue-of g s Rev e m h = absurd (false≢true h)
 issue-of g s Bis e m h = let t = eqSaid (saidAt s (e .registry)) (g .id) in ap (λ (r : Said). record { registry = r; credential = saidAt s (e .credential); sn = snZero; head = saidAt s (e .said) }) (said-eq _ _ (passed t InconsistentRegistry (or-first (acceptIf t InconsistentRegistry) _ h)))
 issue-of g s Brv e m h = absurd (false≢true h)
 
--- the outcome of an answer and of the places that stand beside it
-pub incept-at : (g : Registry) (s : List ℕ) (a : Attempt) (r : Issue) → r .answer ≡ inceptEvent g (viewEvent s (a .event)) (viewAttempt s a) → (r .registry ≡ a .event .registry) × ((r .credential ≡ a .event .credential) × (r .said ≡ a .event .said)) → issueAt s r ≡ inceptMessage g (viewAttempt s a)
+-- what stands beside an answer: the flag and the signatures for the registry's own backers, and the places
+pub record Beside (r : Issue) (a : Attempt) : Type 0 where
+  pub own : r .own ≡ eqb (a .evidence) 2
+  pub signatures : r .signatures ≡ a .signatures
+  pub said : r .said ≡ a .event .said
+  pub credential : r .credential ≡ a .event .credential
+  pub registry : r .registry ≡ a .event .registry
+
+-- the answer with the registry's own backers behind it
+whole : (g : Registry) (s : List ℕ) (a : Attempt) (r : Issue) → r .answer ≡ inceptResolved g (viewEvent s (a .event)) (viewAttempt s a) → Beside r a → issueAnswer g s r ≡ inceptEvent g (viewEvent s (a .event)) (viewAttempt s a)
+whole g s a r h p =
+    rw (h, p .signatures, p .own, ← asked-by s (a .evidence) (readMatter s (a .issuer)) (a .carried) (readRegistry s (a .management) .value))
+    (sym (incept-parts g (viewAttempt s a) (viewEvent s (a .event))))
+
+-- the outcome of an answer and of what stands beside it
+pub incept-at : (g : Registry) (s : List ℕ) (a : Attempt) (r : Issue) → r .answer ≡ inceptResolved g (viewEvent s (a .event)) (viewAttempt s a) → Beside r a → issueAt g s r ≡ inceptMessage g (viewAttempt s a)
 unfolding inceptMessage
-incept-at g s a r h p = rw (p .0, p .1 .0, p .1 .1, h) (ap (λ (w : CredentialState). record { answer = inceptEvent g (viewEvent s (a .event)) (viewAttempt s a); state = w }) (go (accepts (inceptEvent g (viewEvent s (a .event)) (viewAttempt s a))) refl))
+incept-at g s a r h p = rw (whole g s a r h p, p .registry, p .credential, p .said) (ap (λ (w : CredentialState). record { answer = inceptEvent g (viewEvent s (a .event)) (viewAttempt s a); state = w }) (go (accepts (inceptEvent g (viewEvent s (a .event)) (viewAttempt s a))) refl))
   where
     go : (t : Bool) → accepts (inceptEvent g (viewEvent s (a .event)) (viewAttempt s a)) ≡ t → cond t (record { registry = saidAt s (a .event .registry); credential = saidAt s (a .event .credential); sn = snZero; head = saidAt s (a .event .said) }) noCredential ≡ cond t (issued (g .id) (viewEvent s (a .event))) noCredential
     go true z = issue-of g s (a .event .kind) (a .event) (viewAttempt s a) z
     go false z = refl
+
+-- t is the code's test whether the answer accepts, and x what the registry's own backers come to
+module _ (g : Registry) (s : List ℕ) (r : Issue) (t : Bool) (e : t ≡ accepts (r .answer)) where
+  abbrev asked : Answer
+  asked = ownWhere (r .own) (g .toad) (g .backers) (signaturesIn s (r .signatures))
+
+  abbrev outcome : Answer → Outcome
+  outcome x = record { answer = x; state = cond (accepts x) (record { registry = saidAt s (r .registry); credential = saidAt s (r .credential); sn = snZero; head = saidAt s (r .said) }) noCredential }
+
+  pub answer-decides : t ≡ false → issueAt g s r ≡ record { answer = r .answer; state = noCredential }
+  answer-decides h = ap outcome (or-refuses (r .answer) (r .answer) asked t refl e h) ∙ rw (sym e ∙ h)
+
+  pub own-decides : t ≡ true → (x : Answer) → x ≡ asked → issueAt g s r ≡ outcome x
+  own-decides h x f = ap outcome (or-passes (r .answer) (r .answer) asked t refl e h ∙ sym f)
 
 pub incept-decoded : (well : Bool) (g : Registry) (s : List ℕ) (d : DecodedAttempt) → viewDecoded s d ≡ decodeOf s → well ≡ true → d .ok ≡ true → inceptIf well g s ≡ inceptMessage g (viewAttempt s (d .attempt))
 incept-decoded well g s d e w ok = judged-decoded (inceptDecoded g) _ refl s d e well w ok

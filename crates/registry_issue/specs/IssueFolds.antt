@@ -7,6 +7,7 @@ use Rattle.cesr.specs.declared.primitive.Said.{Said}
 use Rattle.events_tel.specs.TelEvents.{Event, snZero}
 use Rattle.events_tel.specs.TelEvents.Event.{vcp, vrt, iss, rev, bis, brv}
 use Rattle.events_seal.specs.declared.seal.Seal.{Seal}
+use Rattle.registry_signatures.specs.SignatureSections.{signaturesIn}
 use Rattle.registry_state.specs.States.{Registry, viewRegistry, wellRegistry}
 use Rattle.registry_state_credential.specs.CredentialStates.{noCredential}
 use Rattle.registry_state.specs.declared.state.RegistryState.{RegistryState}
@@ -16,9 +17,9 @@ use Rattle.registry_wire.specs.Attempts.Decoded.{malformed, decoded}
 use Rattle.registry_error.specs.declared.error.RegistryRejection.the-variants.{Malformed, NotCredentialInception, InconsistentRegistry, SimpleEventOnBackerRegistry, BackedEventOnBackerlessRegistry}
 use Rattle.registry_error.specs.declared.error.Answer.{Answer}
 use Rattle.registry_error.specs.declared.error.Answer.the-variants.{Rejected}
-use Rattle.registry_answer.specs.Answers.{accepts, acceptIf, firstOf}
+use Rattle.registry_answer.specs.Answers.{accepts, acceptIf, orElse, firstOf}
 use Rattle.registry_authentication.specs.Issuers.{anchored, authenticateIssuer}
-use Rattle.registry_backer.specs.Backers.{isBackerless, authenticateBacker}
+use Rattle.registry_backer.specs.Backers.{isBackerless, authenticateBacker, ownWhere}
 use Rattle.registry_issue.specs.declared.credential_state.CredentialOutcome.{CredentialOutcome}
 use Rattle.registry_issue.specs.declared.credential_state.Issue.{Issue}
 
@@ -83,7 +84,11 @@ inceptOf g s = inceptIf (wellRegistry g) (viewRegistry g) s
 abbrev pub viewOutcome : CredentialOutcome → Outcome
 viewOutcome r = record { answer = r .answer; state = r .state }
 
+-- an answer that leaves the registry's own backers to be asked about, with what they come to behind it
+abbrev pub issueAnswer : Registry → List ℕ → Issue → Answer
+issueAnswer g s r = orElse (r .answer) (ownWhere (r .own) (g .toad) (g .backers) (signaturesIn s (r .signatures)))
+
 -- and what places in an attempt's bytes stand for
-abbrev pub issueAt : List ℕ → Issue → Outcome
-issueAt s r =
-    record { answer = r .answer; state = cond (accepts (r .answer)) (record { registry = saidAt s (r .registry); credential = saidAt s (r .credential); sn = snZero; head = saidAt s (r .said) }) noCredential }
+abbrev pub issueAt : Registry → List ℕ → Issue → Outcome
+issueAt g s r =
+    record { answer = issueAnswer g s r; state = cond (accepts (issueAnswer g s r)) (record { registry = saidAt s (r .registry); credential = saidAt s (r .credential); sn = snZero; head = saidAt s (r .said) }) noCredential }

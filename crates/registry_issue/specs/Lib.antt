@@ -1,1 +1,2 @@
 pub mod IssueFolds
+pub mod IssueParts

@@ -6,12 +6,12 @@ use registry_answer::answer::accepts;
 use registry_authentication::issuer::authenticate_issuer;
 use registry_authentication::issuer::message_anchored;
 use registry_backer::backer::authenticate_backer;
+use registry_backer::backer::own_of;
 use registry_error::error::Answer;
 use registry_error::error::RegistryRejection;
-use registry_management::management::Backing;
 use registry_management::management::Management;
-use registry_management::management::backing_of;
 use registry_management::management::management_of;
+use registry_signatures::signatures::Counted;
 use registry_state::state::RegistryState;
 use registry_state_credential::state::CredentialState;
 use registry_wire::attempt::Attempt;
@@ -20,11 +20,12 @@ ghost use mathlib.Core.List.{List};
 ghost use Rattle.cesr.specs.Primitives.{saidAt};
 ghost use Rattle.events_tel.specs.TelEvents.{viewEvent};
 ghost use Rattle.cesr.specs.declared.primitive.BasicPrefix.{BasicPrefix};
-ghost use Rattle.registry_management.specs.Managements.{viewManagement, Backs};
+ghost use Rattle.registry_management.specs.Managements.{viewManagement};
 ghost use Rattle.registry_wire.specs.Attempts.{viewAttempt};
 ghost use Rattle.registry_error.specs.declared.error.Answer.the-variants.{Rejected};
 ghost use Rattle.registry_authentication.specs.Issuers.{Anchored};
-ghost use Rattle.registry_issue.specs.IssueFolds.{issAnswer, bisAnswer, inceptEvent, issueAt, inceptIf, inceptOf, viewOutcome};
+ghost use Rattle.registry_issue.specs.IssueFolds.{issAnswer, issueAt, inceptIf, inceptOf, viewOutcome};
+ghost use Rattle.registry_issue.specs.IssueParts.{bisResolved, inceptResolved};
 
 // An answer, and the state behind it: the next one, or after a refusal the one that was handed in. Where none is handed in it is blank.
 pub struct CredentialOutcome {
@@ -32,9 +33,12 @@ pub struct CredentialOutcome {
     pub state: CredentialState,
 }
 
-// An answer to an issue, and where what its state is made of stands in the attempt's bytes. The places mean something where the answer accepts.
+// An answer to an issue but for the registry's own backers, and where what its state is made of stands in the attempt's bytes. The places mean something where the answer accepts.
 pub struct Issue {
     pub answer: Answer,
+    // Whether the registry's own backers are to be asked about.
+    pub own: bool,
+    pub signatures: Counted,
     pub said: usize,
     pub credential: usize,
     pub registry: usize,
@@ -69,10 +73,10 @@ fn iss_answer(g: Management, a: Attempt, s: &[u8]) -> Answer
     )
 }
 
-// A bis's checks behind its kind.
-fn bis_answer(g: Management, backers: Backing, a: Attempt, s: &[u8]) -> Answer
+// A bis's checks behind its kind, but for the registry's own backers.
+fn bis_answer(g: Management, a: Attempt, s: &[u8]) -> Answer
     requires { ⌜ Anchored (now s) a ⌝ }
-    ensures { λ r. ⌜ ((l : List BasicPrefix) → Backs backers l → r ≡ bisAnswer (viewManagement g l) (saidAt (now (s .entry)) (a .event .said)) (saidAt (now (s .entry)) (a .event .credential)) (saidAt (now (s .entry)) (a .event .registry)) (a .event .seal) (viewAttempt (now (s .entry)) a)) ⌝ }
+    ensures { λ r. ⌜ ((l : List BasicPrefix) → r ≡ bisResolved (viewManagement g l) (saidAt (now (s .entry)) (a .event .said)) (saidAt (now (s .entry)) (a .event .credential)) (saidAt (now (s .entry)) (a .event .registry)) (a .event .seal) (viewAttempt (now (s .entry)) a)) ⌝ }
 {
     let zero = Sn { hi: 0, lo: 0 };
     let id = g.id.0;
@@ -98,12 +102,12 @@ fn bis_answer(g: Management, backers: Backing, a: Attempt, s: &[u8]) -> Answer
     }
     let e = a.event;
     let seal = e.seal;
-    authenticate_backer(s, a.signatures, g, backers, seal, a.evidence, a.management)
+    authenticate_backer(s, a.signatures, g, seal, a.evidence, a.management)
 }
 
-fn incept_event(g: Management, backers: Backing, a: Attempt, s: &[u8]) -> Answer
+fn incept_event(g: Management, a: Attempt, s: &[u8]) -> Answer
     requires { ⌜ Anchored (now s) a ⌝ }
-    ensures { λ r. ⌜ ((l : List BasicPrefix) → Backs backers l → r ≡ inceptEvent (viewManagement g l) (viewEvent (now (s .entry)) (a .event)) (viewAttempt (now (s .entry)) a)) ⌝ }
+    ensures { λ r. ⌜ ((l : List BasicPrefix) → r ≡ inceptResolved (viewManagement g l) (viewEvent (now (s .entry)) (a .event)) (viewAttempt (now (s .entry)) a)) ⌝ }
 {
     let e = a.event;
     let kind = e.kind;
@@ -112,7 +116,7 @@ fn incept_event(g: Management, backers: Backing, a: Attempt, s: &[u8]) -> Answer
         Kind::Vrt => Answer::Rejected(RegistryRejection::NotCredentialInception),
         Kind::Iss => iss_answer(g, a, s),
         Kind::Rev => Answer::Rejected(RegistryRejection::NotCredentialInception),
-        Kind::Bis => bis_answer(g, backers, a, s),
+        Kind::Bis => bis_answer(g, a, s),
         Kind::Brv => Answer::Rejected(RegistryRejection::NotCredentialInception),
     }
 }
@@ -127,18 +131,22 @@ pub fn refused(w: CredentialState, refusal: RegistryRejection) -> CredentialOutc
     }
 }
 
-// The first event of a credential under a registry in two parts, whether that is well formed or not. It stays in its bytes.
-pub fn incept_read(well: bool, g: Management, backers: Backing, s: &[u8]) -> Issue
-    ensures { λ r. ⌜ ((l : List BasicPrefix) → Backs backers l → issueAt (now (s .entry)) r ≡ inceptIf well (viewManagement g l) (now (s .entry))) ⌝ }
+// The first event of a credential under a registry in two parts, whether that is well formed or not, but for the registry's own backers. It stays in its bytes.
+pub fn incept_read(well: bool, g: Management, s: &[u8]) -> Issue
+    ensures { λ r. ⌜ ((l : List BasicPrefix) → issueAt (viewManagement g l) (now (s .entry)) r ≡ inceptIf well (viewManagement g l) (now (s .entry))) ⌝ }
 {
     let d = Attempt::decode(s);
     if well & d.ok {
-        let answer = incept_event(g, backers, d.attempt, s);
+        let answer = incept_event(g, d.attempt, s);
+        let own = d.attempt.evidence == 2;
+        let signatures = d.attempt.signatures;
         let said = d.attempt.event.said;
         let credential = d.attempt.event.credential;
         let registry = d.attempt.event.registry;
         return Issue {
             answer,
+            own,
+            signatures,
             said,
             credential,
             registry,
@@ -146,6 +154,8 @@ pub fn incept_read(well: bool, g: Management, backers: Backing, s: &[u8]) -> Iss
     }
     Issue {
         answer: Answer::Rejected(RegistryRejection::Malformed),
+        own: false,
+        signatures: Counted { from: 0, count: 0 },
         said: 0,
         credential: 0,
         registry: 0,
@@ -157,9 +167,13 @@ pub fn incept(g: RegistryState, s: &[u8]) -> CredentialOutcome
     ensures { λ r. ⌜ viewOutcome r ≡ inceptOf g (now (s .entry)) ⌝ }
 {
     let well = g.well_formed();
-    let backers = backing_of(g.backers);
-    let r = incept_read(well, management_of(g), backers, s);
+    let r = incept_read(well, management_of(g), s);
     let answer = r.answer;
+    if !accepts(answer) {
+        let state = CredentialState::none();
+        return CredentialOutcome { answer, state };
+    }
+    let answer = own_of(r.own, s, r.signatures, g.backers, g.toad);
     if accepts(answer) {
         let registry = Said::read(s, r.registry);
         let credential = Said::read(s, r.credential);

@@ -2,7 +2,7 @@
 use Prim.Native.Nat.{ℕ}
 use mathlib.Core.List.{List, _++_}
 use mathlib.Core.Bool.{Bool, _&&_}
-use Rattle.cesr.specs.Primitives.{none, isSaid}
+use Rattle.cesr.specs.Primitives.{none, isSaid, saidAt}
 use Rattle.cesr.specs.declared.primitive.Said.{Said}
 use Rattle.cesr_sn.specs.Numbers.{snBytes}
 use Rattle.cesr_sn.specs.declared.number.Sn.{Sn}
@@ -10,6 +10,7 @@ use Rattle.codec_cursor.specs.Readers.{Read, Reader, readNumber, readSaid, mapp
 use Rattle.codec.specs.Layout.{saidBytes, isMatter, goodSaid, goodSn}
 use Rattle.registry_state_credential.specs.declared.state.CredentialState.{CredentialState}
 use Rattle.registry_state_credential.specs.declared.state.CredentialRead.{CredentialRead}
+use Rattle.registry_state_credential.specs.declared.state.CredentialAt.{CredentialAt}
 
 -- a credential state: registry, credential, sn, head
 unfoldable pub credentialBytes : CredentialState → List ℕ
@@ -43,3 +44,10 @@ noCredential =
 -- what the struct of the code stands for
 abbrev pub viewCredentialRead : CredentialRead → Read CredentialState
 viewCredentialRead r = record { value = r .value; next = r .next }
+
+-- the state that stands at these places
+abbrev pub credentialAt : List ℕ → CredentialAt → CredentialState
+credentialAt s r = record { registry = saidAt s (r .registry); credential = saidAt s (r .credential); sn = r .sn; head = saidAt s (r .head) }
+
+abbrev pub viewCredentialAt : List ℕ → CredentialAt → Read CredentialState
+viewCredentialAt s r = record { value = credentialAt s r; next = r .next }

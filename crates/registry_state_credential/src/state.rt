@@ -6,7 +6,7 @@ use codec_cursor::cursor::Cursor;
 use registry_bytes::writer::write_credential;
 ghost use mathlib.Core.Path.{_≡_};
 ghost use Rattle.laws.specs.Room.{room, put};
-ghost use Rattle.registry_state_credential.specs.CredentialStates.{credentialBytes, readCredential, viewCredentialRead, noCredential, wellCredential};
+ghost use Rattle.registry_state_credential.specs.CredentialStates.{credentialBytes, readCredential, viewCredentialRead, viewCredentialAt, noCredential, wellCredential};
 
 #[repr(C)]
 pub struct CredentialState {
@@ -19,6 +19,15 @@ pub struct CredentialState {
 
 pub struct CredentialRead {
     pub value: CredentialState,
+    pub next: Cursor,
+}
+
+// A state that stays in its bytes: where its digests stand, and its sn.
+pub struct CredentialAt {
+    pub registry: usize,
+    pub credential: usize,
+    pub sn: Sn,
+    pub head: usize,
     pub next: Cursor,
 }
 
@@ -76,5 +85,26 @@ impl CredentialState {
             head,
         };
         CredentialRead { value, next }
+    }
+}
+
+impl CredentialAt {
+    // The same, passed over: only the letters of its digests are looked at.
+    pub fn read(c: Cursor, s: &[u8]) -> CredentialAt
+        ensures { λ r. ⌜ viewCredentialAt (now (s .entry)) r ≡ readCredential (now (s .entry)) c ⌝ }
+    {
+        let credential = c.pass_said(s);
+        let number = credential.pass_said(s);
+        let number = number.sn(s);
+        let head = number.next;
+        let next = head.pass_said(s);
+        let sn = number.value;
+        CredentialAt {
+            registry: c.at,
+            credential: credential.at,
+            sn,
+            head: head.at,
+            next,
+        }
     }
 }

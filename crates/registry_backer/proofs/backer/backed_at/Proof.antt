@@ -28,23 +28,20 @@ returns c p d l =
     rw (← read .ensures)
     (unresolved s (q .evidence) p d (viewManagement (q .g) l) (viewManagement (read .result .value) held) (q .seal) (signaturesIn s (q .signatures)) _ (b2 .resolved .ensures s p d l held) (sym (c .before .accepts .ensures) ∙ not-true _ (c .if1 .taken)))
 
-backing-in-requires : tie.Need-backing-in-requires
-backing-in-requires c κs = search needs
-
-backed-by-requires : tie.Need-backed-by-requires
-backed-by-requires c κs = search needs
+backed-in-requires : tie.Need-backed-in-requires
+backed-in-requires c κs = search needs
 
 returns-2 : tie.Need-returns-2
 returns-2 c p d l =
-    let b2 = c .before .before in
-    let b4 = b2 .before .before in
-    let read = b4 .before .read-management in
-    let start = b4 .before .before .before in
+    let b1 = c .before in
+    let b3 = b1 .before .before in
+    let read = b3 .before .read-management in
+    let start = b3 .before .before .before in
     let q = start .args in
     let s = now (q .s) in
     let held = membersIn s (read .result .backers) in
     rw (← read .ensures)
-    (by-held s (q .evidence) p d (viewManagement (q .g) l) (viewManagement (read .result .value) held) (q .seal) (signaturesIn s (q .signatures)) _ _ (start .pre) (b4 .resolved .ensures s p d l held) (sym (b2 .before .accepts .ensures) ∙ not-false _ (b2 .if1 .left)) (c .backed-by .ensures held (c .before .backing-in .ensures)))
+    (by-held s (q .evidence) p d (viewManagement (q .g) l) (viewManagement (read .result .value) held) (q .seal) (signaturesIn s (q .signatures)) _ _ (start .pre) (b3 .resolved .ensures s p d l held) (sym (b1 .before .accepts .ensures) ∙ not-false _ (b1 .if1 .left)) (c .backed-in .ensures))
 
 pub backed-at-spec : {M : Type 1} → statement M
 backed-at-spec =
@@ -54,6 +51,5 @@ backed-at-spec =
     resolved-requires
     accepts-requires
     returns
-    backing-in-requires
-    backed-by-requires
+    backed-in-requires
     returns-2)

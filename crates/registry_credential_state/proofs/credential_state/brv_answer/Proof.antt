@@ -1,5 +1,5 @@
 use denote.Ref.{now}
-use mathlib.Core.Path.{_≡_, sym, ap, _∙_}
+use mathlib.Core.Path.{sym, _∙_}
 use native.Mathlib.Omega.{arith}
 use borrow.Author.Tests.{not-true, not-false}
 use Rattle.cesr.specs.Primitives.{readMatter, saidAt}
@@ -7,7 +7,7 @@ use Rattle.events_tel.specs.TelEvents.{snOne}
 use Rattle.registry_wire.specs.Attempts.{sourcesIn, viewAttempt}
 use Rattle.registry_management.specs.Managements.{viewManagement}
 use Rattle.registry_authentication.proofs.AnchorUse.{message-in}
-use Rattle.registry_credential_state.proofs.CredentialLaws.{brv-routed, brv-flavor, brv-anchor, brv-backed, brv-last}
+use Rattle.registry_credential_state.proofs.CredentialLaws.{brv-routed, brv-flavor, brv-anchor, brv-backed}
 use borrow.Author.Needs.{needs}
 use Rattle.registry_credential_state.proofs.credential_state.brv_answer.Statement.{
   statement,
@@ -18,7 +18,7 @@ names-registry-requires : tie.Need-names-registry-requires
 names-registry-requires c κs = search needs
 
 returns : tie.Need-returns
-returns c l k =
+returns c l =
     let start = c .before .before .before .before in
     let q = start .args in
     let s = now (q .s) in
@@ -26,15 +26,14 @@ returns c l k =
     let g = viewManagement (q .g) l in
     let said = saidAt s (e .said) in
     let credential = saidAt s (e .credential) in
-    let prior = saidAt s (e .prior) in
     let m = viewAttempt s (q .a) in
-    brv-routed g (q .w) said credential prior m (e .seal) (sym (c .before .names-registry .ensures) ∙ not-true _ (c .if1 .taken))
+    brv-routed g said credential m (e .seal) (sym (c .before .names-registry .ensures) ∙ not-true _ (c .if1 .taken))
 
 no-backers-requires : tie.Need-no-backers-requires
 no-backers-requires c κs = search needs
 
 returns-2 : tie.Need-returns-2
-returns-2 c l k =
+returns-2 c l =
     let b2 = c .before .before in
     let start = b2 .before .before .before .before in
     let q = start .args in
@@ -43,9 +42,8 @@ returns-2 c l k =
     let g = viewManagement (q .g) l in
     let said = saidAt s (e .said) in
     let credential = saidAt s (e .credential) in
-    let prior = saidAt s (e .prior) in
     let m = viewAttempt s (q .a) in
-    brv-flavor g (q .w) said credential prior m (e .seal) (sym (b2 .before .names-registry .ensures) ∙ not-false _ (b2 .if1 .left)) (sym (c .before .no-backers .ensures) ∙ c .if2 .taken)
+    brv-flavor g said credential m (e .seal) (sym (b2 .before .names-registry .ensures) ∙ not-false _ (b2 .if1 .left)) (sym (c .before .no-backers .ensures) ∙ c .if2 .taken)
 
 read-requires : tie.Need-read-requires
 read-requires c κs = search needs
@@ -58,7 +56,7 @@ accepts-requires c κs = search needs
 
 returns-3 : tie.Need-returns-3
 unfolding sourcesIn
-returns-3 c l k =
+returns-3 c l =
     let bm = c .before .before in
     let b2 = bm .before .before in
     let b4 = b2 .before .before in
@@ -70,24 +68,20 @@ returns-3 c l k =
     let g = viewManagement (q .g) l in
     let said = saidAt s (e .said) in
     let credential = saidAt s (e .credential) in
-    let prior = saidAt s (e .prior) in
     let m = viewAttempt s (q .a) in
     let in-bytes = message-in s (q .a) (q .g .issuer) credential snOne said (λ i. omega (arith, b7 .shared-slice-known .given i)) (start .pre) in
     let routed = sym (b4 .before .names-registry .ensures) ∙ not-false _ (b4 .if1 .left) in
     let flavor = sym (b2 .before .no-backers .ensures) ∙ b2 .if2 .left in
-    brv-anchor g (q .w) said credential prior m (e .seal) routed flavor (bm .message-anchored .result) (rw (bm .message-anchored .ensures, bm .before .read .ensures) in-bytes) (sym (c .before .accepts .ensures) ∙ not-true _ (c .if3 .taken))
+    brv-anchor g said credential m (e .seal) routed flavor (bm .message-anchored .result) (rw (bm .message-anchored .ensures, bm .before .read .ensures) in-bytes) (sym (c .before .accepts .ensures) ∙ not-true _ (c .if3 .taken))
 
 authenticate-backer-requires : tie.Need-authenticate-backer-requires
 authenticate-backer-requires c κs = search needs
 
-accepts-requires-2 : tie.Need-accepts-requires-2
-accepts-requires-2 c κs = search needs
-
 returns-4 : tie.Need-returns-4
 unfolding sourcesIn
-returns-4 c l k =
-    let b3 = c .before .before .before in
-    let bm = c .before .before .before .before .before in
+returns-4 c l =
+    let b1 = c .before in
+    let bm = b1 .before .before in
     let b2 = bm .before .before in
     let b4 = b2 .before .before in
     let b7 = b4 .before .before .before in
@@ -98,46 +92,12 @@ returns-4 c l k =
     let g = viewManagement (q .g) l in
     let said = saidAt s (e .said) in
     let credential = saidAt s (e .credential) in
-    let prior = saidAt s (e .prior) in
     let m = viewAttempt s (q .a) in
     let in-bytes = message-in s (q .a) (q .g .issuer) credential snOne said (λ i. omega (arith, b7 .shared-slice-known .given i)) (start .pre) in
     let routed = sym (b4 .before .names-registry .ensures) ∙ not-false _ (b4 .if1 .left) in
     let flavor = sym (b2 .before .no-backers .ensures) ∙ b2 .if2 .left in
-    brv-backed g (q .w) said credential prior m (e .seal) routed flavor (bm .message-anchored .result) (rw (bm .message-anchored .ensures, bm .before .read .ensures) in-bytes) (sym (b3 .before .accepts .ensures) ∙ not-false _ (b3 .if3 .left)) _
-    (c .before .before .authenticate-backer .ensures (readMatter s (q .a .issuer)) (q .a .carried) l k)
-    (sym (c .before .accepts2 .ensures) ∙ not-true _ (c .if4 .taken))
-
-read-requires-2 : tie.Need-read-requires-2
-read-requires-2 c κs = search needs
-
-transition-requires : tie.Need-transition-requires
-transition-requires c κs = search needs
-
-returns-5 : tie.Need-returns-5
-unfolding sourcesIn
-returns-5 c l k =
-    let b2′ = c .before .before in
-    let b5 = b2′ .before .before .before in
-    let bm = c .before .before .before .before .before .before .before in
-    let b2 = bm .before .before in
-    let b4 = b2 .before .before in
-    let b7 = b4 .before .before .before in
-    let start = b7 .before in
-    let q = start .args in
-    let s = now (q .s) in
-    let e = q .a .event in
-    let g = viewManagement (q .g) l in
-    let said = saidAt s (e .said) in
-    let credential = saidAt s (e .credential) in
-    let prior = saidAt s (e .prior) in
-    let m = viewAttempt s (q .a) in
-    let in-bytes = message-in s (q .a) (q .g .issuer) credential snOne said (λ i. omega (arith, b7 .shared-slice-known .given i)) (start .pre) in
-    let routed = sym (b4 .before .names-registry .ensures) ∙ not-false _ (b4 .if1 .left) in
-    let flavor = sym (b2 .before .no-backers .ensures) ∙ b2 .if2 .left in
-    brv-last g (q .w) said credential prior m (e .seal) routed flavor (bm .message-anchored .result) (rw (bm .message-anchored .ensures, bm .before .read .ensures) in-bytes) (sym (b5 .before .accepts .ensures) ∙ not-false _ (b5 .if3 .left)) (b2′ .before .before .authenticate-backer .result) _
-    (b2′ .before .before .authenticate-backer .ensures (readMatter s (q .a .issuer)) (q .a .carried) l k)
-    (sym (b2′ .before .accepts2 .ensures) ∙ not-false _ (b2′ .if4 .left))
-    (rw (c .transition .ensures, c .before .read2 .ensures, bm .before .read .ensures))
+    brv-backed g said credential m (e .seal) routed flavor (bm .message-anchored .result) (rw (bm .message-anchored .ensures, bm .before .read .ensures) in-bytes) (sym (b1 .before .accepts .ensures) ∙ not-false _ (b1 .if3 .left)) _
+    (c .authenticate-backer .ensures (readMatter s (q .a .issuer)) (q .a .carried) l)
 
 pub brv-answer-spec : {M : Type 1} → statement M
 brv-answer-spec =
@@ -152,8 +112,4 @@ brv-answer-spec =
     accepts-requires
     returns-3
     authenticate-backer-requires
-    accepts-requires-2
-    returns-4
-    read-requires-2
-    transition-requires
-    returns-5)
+    returns-4)

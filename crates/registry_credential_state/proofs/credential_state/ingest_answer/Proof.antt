@@ -1,5 +1,5 @@
 use denote.Ref.{now}
-use mathlib.Core.Path.{sym, _∙_}
+use mathlib.Core.Path.{_∙_}
 use borrow.Author.Needs.{needs}
 use borrow.Author.Tests.{not-true, not-false}
 use Rattle.registry_wire.specs.Attempts.{viewAttempt}
@@ -8,24 +8,19 @@ use Rattle.registry_credential_state.proofs.CredentialLaws.{held-elsewh
 use Rattle.registry_credential_state.proofs.credential_state.ingest_answer.Statement.{statement}
 use Rattle.registry_credential_state.proofs.credential_state.ingest_answer.Tie as tie
 
-same-requires : tie.Need-same-requires
-same-requires c κs = search needs
-
 returns : tie.Need-returns
-returns c l k =
-    let z = c .before .before .before .args in
-    held-elsewhere (viewManagement (z .g) l) (z .w) (viewAttempt (now (z .s)) (z .a)) (sym (c .before .same .ensures) ∙ not-true _ (c .if1 .taken))
+returns c l =
+    let z = c .before .before .args in
+    held-elsewhere (z .held) (viewManagement (z .g) l) (viewAttempt (now (z .s)) (z .a)) (not-true _ (c .if1 .taken))
 
 ingest-event-requires : tie.Need-ingest-event-requires
 ingest-event-requires c κs = search needs
 
 returns-2 : tie.Need-returns-2
-returns-2 c l k =
+returns-2 c l =
     let b1 = c .before in
-    let z = b1 .before .before .before .args in
-    c .ingest-event .ensures l k
-    ∙ held-here (viewManagement (z .g) l) (z .w) (viewAttempt (now (z .s)) (z .a)) (sym (b1 .before .same .ensures) ∙ not-false _ (b1 .if1 .left))
+    let z = b1 .before .before .args in
+    c .ingest-event .ensures l ∙ held-here (z .held) (viewManagement (z .g) l) (viewAttempt (now (z .s)) (z .a)) (not-false _ (b1 .if1 .left))
 
 pub ingest-answer-spec : {M : Type 1} → statement M
-ingest-answer-spec =
-    tie.close (tie.spec same-requires returns ingest-event-requires returns-2)
+ingest-answer-spec = tie.close (tie.spec returns ingest-event-requires returns-2)

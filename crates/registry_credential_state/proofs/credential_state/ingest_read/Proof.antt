@@ -1,10 +1,11 @@
 use denote.Ref.{now}
 use native.Mathlib.Omega.{arith}
-use mathlib.Core.Path.{refl, sym, _∙_}
+use mathlib.Core.Path.{sym, _∙_}
 use borrow.Author.Needs.{needs}
 use Rattle.laws.proofs.Tests.{and-left, and-right}
 use Rattle.registry_authentication.proofs.AnchorUse.{decoded-good, anchored-parts}
 use Rattle.registry_management.specs.Managements.{viewManagement}
+use Rattle.registry_credential_state.specs.CredentialParts.{revocationAnswer}
 use Rattle.registry_credential_state.proofs.CredentialLaws.{ingest-at, ingest-decoded, ingest-malformed}
 use Rattle.registry_credential_state.proofs.credential_state.ingest_read.Statement.{statement}
 use Rattle.registry_credential_state.proofs.credential_state.ingest_read.Tie as tie
@@ -24,21 +25,23 @@ ingest-answer-requires c κs =
     anchored-parts s (r .attempt) (decoded-good s r (λ i. omega (arith, known i)) (b .decode .ensures .0) ok) (p .0) (p .1)
 
 returns : tie.Need-returns
-returns c l k =
-    let b = c .before .before .before in
-    let z = b .before .before .args in
+returns c l w h =
+    let b2 = c .before .before in
+    let b5 = b2 .before .before .before in
+    let z = b5 .before .before .args in
     let s = now (z .s) in
-    let r = b .decode .result in
+    let r = b5 .decode .result in
     let g = viewManagement (z .g) l in
-    let taken = c .before .if1 .taken in
-    ingest-at g (z .w) s (r .attempt) _ (c .ingest-answer .ensures l k) refl
-    ∙ sym (ingest-decoded (z .well) g (z .w) s r (b .decode .ensures .0) (and-left (z .well) (r .ok) taken) (and-right (z .well) (r .ok) taken))
+    let taken = b2 .before .if1 .taken in
+    ingest-at g w s (z .held) h (r .attempt) (b2 .ingest-answer .result) (b2 .ingest-answer .ensures l)
+    ∙ sym (ingest-decoded (z .well) g w s r (b5 .decode .ensures .0) (and-left (z .well) (r .ok) taken) (and-right (z .well) (r .ok) taken))
 
 returns-2 : tie.Need-returns-2
-returns-2 c l k =
+unfolding revocationAnswer
+returns-2 c l w h =
     let b = c .before .before in
     let z = b .before .before .args in
-    sym (ingest-malformed (z .well) (viewManagement (z .g) l) (z .w) (now (z .s)) (b .decode .result) (b .decode .ensures .0) (c .if1 .left))
+    sym (ingest-malformed (z .well) (viewManagement (z .g) l) w (now (z .s)) (b .decode .result) (b .decode .ensures .0) (c .if1 .left))
 
 pub ingest-read-spec : {M : Type 1} → statement M
 ingest-read-spec =

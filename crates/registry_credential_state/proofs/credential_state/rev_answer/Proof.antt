@@ -1,5 +1,5 @@
 use denote.Ref.{now}
-use mathlib.Core.Path.{_≡_, sym, ap, _∙_}
+use mathlib.Core.Path.{sym, _∙_}
 use native.Mathlib.Omega.{arith}
 use borrow.Author.Tests.{not-true, not-false}
 use Rattle.cesr.specs.Primitives.{saidAt}
@@ -7,7 +7,7 @@ use Rattle.events_tel.specs.TelEvents.{snOne}
 use Rattle.registry_wire.specs.Attempts.{sourcesIn, viewAttempt}
 use Rattle.registry_management.specs.Managements.{viewManagement}
 use Rattle.registry_authentication.proofs.AnchorUse.{issuer-in}
-use Rattle.registry_credential_state.proofs.CredentialLaws.{rev-routed, rev-flavor, rev-issuer, rev-last}
+use Rattle.registry_credential_state.proofs.CredentialLaws.{rev-routed, rev-flavor, rev-issuer}
 use borrow.Author.Needs.{needs}
 use Rattle.registry_credential_state.proofs.credential_state.rev_answer.Statement.{
   statement,
@@ -26,10 +26,9 @@ returns c l =
     let g = viewManagement (q .g) l in
     let said = saidAt s (e .said) in
     let credential = saidAt s (e .credential) in
-    let prior = saidAt s (e .prior) in
     let m = viewAttempt s (q .a) in
     let registry = saidAt s (e .registry) in
-    rev-routed g (q .w) said credential prior m registry (sym (c .before .same-at .ensures) ∙ not-true _ (c .if1 .taken))
+    rev-routed g said credential m registry (sym (c .before .same-at .ensures) ∙ not-true _ (c .if1 .taken))
 
 no-backers-requires : tie.Need-no-backers-requires
 no-backers-requires c κs = search needs
@@ -44,10 +43,9 @@ returns-2 c l =
     let g = viewManagement (q .g) l in
     let said = saidAt s (e .said) in
     let credential = saidAt s (e .credential) in
-    let prior = saidAt s (e .prior) in
     let m = viewAttempt s (q .a) in
     let registry = saidAt s (e .registry) in
-    rev-flavor g (q .w) said credential prior m registry (sym (b2 .before .same-at .ensures) ∙ not-false _ (b2 .if1 .left)) (sym (c .before .no-backers .ensures) ∙ not-true _ (c .if2 .taken))
+    rev-flavor g said credential m registry (sym (b2 .before .same-at .ensures) ∙ not-false _ (b2 .if1 .left)) (sym (c .before .no-backers .ensures) ∙ not-true _ (c .if2 .taken))
 
 read-requires : tie.Need-read-requires
 read-requires c κs = search needs
@@ -55,60 +53,24 @@ read-requires c κs = search needs
 authenticate-issuer-requires : tie.Need-authenticate-issuer-requires
 authenticate-issuer-requires c κs = search needs
 
-accepts-requires : tie.Need-accepts-requires
-accepts-requires c κs = search needs
-
 returns-3 : tie.Need-returns-3
 unfolding sourcesIn
 returns-3 c l =
     let b2 = c .before .before in
     let b4 = b2 .before .before in
-    let b6 = b4 .before .before in
-    let b9 = b6 .before .before .before in
-    let start = b9 .before in
+    let b7 = b4 .before .before .before in
+    let start = b7 .before in
     let q = start .args in
     let s = now (q .s) in
     let e = q .a .event in
     let g = viewManagement (q .g) l in
     let said = saidAt s (e .said) in
     let credential = saidAt s (e .credential) in
-    let prior = saidAt s (e .prior) in
     let m = viewAttempt s (q .a) in
     let registry = saidAt s (e .registry) in
-    let in-bytes = issuer-in s (q .a) (q .g .issuer) credential snOne said (λ i. omega (arith, b9 .shared-slice-known .given i)) (start .pre) in
-    rev-issuer g (q .w) said credential prior m registry (sym (b6 .before .same-at .ensures) ∙ not-false _ (b6 .if1 .left)) (sym (b4 .before .no-backers .ensures) ∙ not-false _ (b4 .if2 .left)) _
-    (rw (b2 .authenticate-issuer .ensures (q .a .management), b2 .before .read .ensures) in-bytes)
-    (sym (c .before .accepts .ensures) ∙ not-true _ (c .if3 .taken))
-
-read-requires-2 : tie.Need-read-requires-2
-read-requires-2 c κs = search needs
-
-transition-requires : tie.Need-transition-requires
-transition-requires c κs = search needs
-
-returns-4 : tie.Need-returns-4
-unfolding sourcesIn
-returns-4 c l =
-    let b2 = c .before .before in
-    let b4 = b2 .before .before in
-    let b6 = b4 .before .before in
-    let b8 = b6 .before .before in
-    let b11 = b8 .before .before .before in
-    let start = b11 .before in
-    let q = start .args in
-    let s = now (q .s) in
-    let e = q .a .event in
-    let g = viewManagement (q .g) l in
-    let said = saidAt s (e .said) in
-    let credential = saidAt s (e .credential) in
-    let prior = saidAt s (e .prior) in
-    let m = viewAttempt s (q .a) in
-    let registry = saidAt s (e .registry) in
-    let in-bytes = issuer-in s (q .a) (q .g .issuer) credential snOne said (λ i. omega (arith, b11 .shared-slice-known .given i)) (start .pre) in
-    rev-last g (q .w) said credential prior m registry (sym (b8 .before .same-at .ensures) ∙ not-false _ (b8 .if1 .left)) (sym (b6 .before .no-backers .ensures) ∙ not-false _ (b6 .if2 .left)) (b4 .authenticate-issuer .result) _
-    (rw (b4 .authenticate-issuer .ensures (q .a .management), b4 .before .read .ensures) in-bytes)
-    (sym (b2 .before .accepts .ensures) ∙ not-false _ (b2 .if3 .left))
-    (rw (c .transition .ensures, c .before .read2 .ensures, b4 .before .read .ensures))
+    let in-bytes = issuer-in s (q .a) (q .g .issuer) credential snOne said (λ i. omega (arith, b7 .shared-slice-known .given i)) (start .pre) in
+    rev-issuer g said credential m registry (sym (b4 .before .same-at .ensures) ∙ not-false _ (b4 .if1 .left)) (sym (b2 .before .no-backers .ensures) ∙ not-false _ (b2 .if2 .left)) _
+    (rw (c .authenticate-issuer .ensures (q .a .management), c .before .read .ensures) in-bytes)
 
 pub rev-answer-spec : {M : Type 1} → statement M
 rev-answer-spec =
@@ -120,8 +82,4 @@ rev-answer-spec =
     returns-2
     read-requires
     authenticate-issuer-requires
-    accepts-requires
-    returns-3
-    read-requires-2
-    transition-requires
-    returns-4)
+    returns-3)

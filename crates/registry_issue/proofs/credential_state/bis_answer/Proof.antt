@@ -16,7 +16,7 @@ same-at-requires : tie.Need-same-at-requires
 same-at-requires c κs = search needs
 
 returns : tie.Need-returns
-returns c l k =
+returns c l =
     let start = c .before .before .before .before in
     let q = start .args in
     let s = now (q .s) in
@@ -32,7 +32,7 @@ no-backers-requires : tie.Need-no-backers-requires
 no-backers-requires c κs = search needs
 
 returns-2 : tie.Need-returns-2
-returns-2 c l k =
+returns-2 c l =
     let b2 = c .before .before in
     let start = b2 .before .before .before .before in
     let q = start .args in
@@ -56,7 +56,7 @@ accepts-requires c κs = search needs
 
 returns-3 : tie.Need-returns-3
 unfolding sourcesIn
-returns-3 c l k =
+returns-3 c l =
     let b2 = c .before .before in
     let b4 = b2 .before .before in
     let b6 = b4 .before .before in
@@ -80,7 +80,7 @@ authenticate-backer-requires c κs = search needs
 
 returns-4 : tie.Need-returns-4
 unfolding sourcesIn
-returns-4 c l k =
+returns-4 c l =
     let b2 = c .before .before in
     let b4 = b2 .before .before in
     let b6 = b4 .before .before in
@@ -99,7 +99,7 @@ returns-4 c l k =
     bis-backed g said credential registry m (e .seal) (sym (b8 .before .same-at .ensures) ∙ not-false _ (b8 .if1 .left)) (sym (b6 .before .no-backers .ensures) ∙ b6 .if2 .left) (b4 .message-anchored .result) _
     (rw (b4 .message-anchored .ensures, b4 .before .read .ensures) in-bytes)
     (sym (b2 .before .accepts .ensures) ∙ not-false _ (b2 .if3 .left))
-    (c .authenticate-backer .ensures (readMatter s (q .a .issuer)) (q .a .carried) l k)
+    (c .authenticate-backer .ensures (readMatter s (q .a .issuer)) (q .a .carried) l)
 
 pub bis-answer-spec : {M : Type 1} → statement M
 bis-answer-spec =

@@ -24,18 +24,19 @@ incept-event-requires c κs =
     anchored-parts s (r .attempt) (decoded-good s r (λ i. omega (arith, known i)) (b .decode .ensures .0) ok) (p .0) (p .1)
 
 returns : tie.Need-returns
-returns c l k =
-    let b = c .before .before .before in
+returns c l =
+    let folded = c .before .before in
+    let b = folded .before .before .before in
     let z = b .before .before .args in
     let s = now (z .s) in
     let r = b .decode .result in
     let g = viewManagement (z .g) l in
-    let taken = c .before .if1 .taken in
-    incept-at g s (r .attempt) _ (c .incept-event .ensures l k) (refl, (refl, refl))
+    let taken = folded .before .if1 .taken in
+    incept-at g s (r .attempt) _ (folded .incept-event .ensures l) (record { own = refl; signatures = refl; said = refl; credential = refl; registry = refl })
     ∙ sym (incept-decoded (z .well) g s r (b .decode .ensures .0) (and-left (z .well) (r .ok) taken) (and-right (z .well) (r .ok) taken))
 
 returns-2 : tie.Need-returns-2
-returns-2 c l k =
+returns-2 c l =
     let b = c .before .before in
     let z = b .before .before .args in
     sym (incept-malformed (z .well) (viewManagement (z .g) l) (now (z .s)) (b .decode .result) (b .decode .ensures .0) (c .if1 .left))
