@@ -1,17 +1,19 @@
 -- What an attempt asks of the ledger, in numbers (docs/RULES.md, "Ledger").
 use Prim.Native.Nat.{ℕ}
-use mathlib.Core.Bool.{Bool, true, false}
+use mathlib.Core.Bool.{Bool, true, false, cond}
 use mathlib.Core.List.{List, [], _∷_}
+use lib.Dec.{eqb}
+use Rattle.laws.specs.Number.{numberAt}
+use Rattle.cesr.specs.Primitives.{readMatter, saidAt}
 use Rattle.cesr.specs.declared.primitive.Said.{Said}
-use Rattle.codec_cursor.specs.Readers.{starting}
-use Rattle.codec.specs.Events.{readEvent}
+use Rattle.events_seal.specs.Identifiers.{identifierOf}
 use Rattle.events_tel.specs.TelEvents.{Event}
 use Rattle.events_tel.specs.TelEvents.Event.{vcp, vrt, iss, rev, bis, brv}
 use Rattle.registry_state.specs.States.{noSaid}
 use Rattle.registry_error.specs.Errors.{numberOf}
 use Rattle.registry_wire.specs.Attempts.{Decoded, decodeOf}
 use Rattle.registry_wire.specs.Attempts.Decoded.{malformed, decoded}
-use Rattle.registry_laws.specs.Pairs.{Pair, pairIn}
+use Rattle.registry_laws.specs.Pairs.{Pair, pairUnder, pairIn}
 use Rattle.ledger_step.specs.Steps.{Request}
 use Rattle.ledger_step.specs.Steps.Request.{nothing, inception, rotation, issue, revocation}
 use Rattle.ledger_asked.specs.declared.call.Named.{Named}
@@ -45,9 +47,27 @@ namedEvent (rev said credential registry prior) = about 4 registry credential
 namedEvent (bis said credential registry seal) = about 3 registry credential
 namedEvent (brv said credential prior seal) = namedPair (pairIn seal credential)
 
--- what the event at the head of the bytes asks, also where they are no attempt
+-- The names in the bytes of an attempt, at the places where its kind has them (docs/RULES.md, "Bytes"): the kind at 0, the event's said at 2, and each further primitive 33 bytes on. Of bytes that are no attempt they mean nothing.
+-- an iss, a rev and a bis: the credential, then the registry
+abbrev pub namedAt : ℕ → List ℕ → Named
+namedAt kind s = about kind (saidAt s 68) (saidAt s 35)
+
+-- a brv: the credential, then the prior, four empty sections, a count, and the seal: its kind and, where that is 4, its i
+abbrev pub pairAt : List ℕ → List Pair
+pairAt s = cond (eqb (numberAt s 106 1) 4) (pairUnder (identifierOf (readMatter s 107)) (saidAt s 35)) []
+
+-- by the kind, as it is read: what is no other is a brv
+abbrev pub namedBy : ℕ → List ℕ → Named
+namedBy k s =
+    cond (eqb k 1) (about 1 (saidAt s 2) noSaid)
+    (cond (eqb k 2) (about 2 (saidAt s 35) noSaid)
+    (cond (eqb k 3) (namedAt 3 s)
+    (cond (eqb k 4) (namedAt 4 s)
+    (cond (eqb k 5) (namedAt 3 s)
+    (namedPair (pairAt s))))))
+
 unfoldable pub headNamed : List ℕ → Named
-headNamed s = namedEvent (readEvent s starting .value)
+headNamed s = namedBy (numberAt s 0 1) s
 
 -- whether the bytes are an attempt
 abbrev pub isDecoded : Decoded → Bool

@@ -1,19 +1,12 @@
-// What an attempt asks of the ledger (docs/RULES.md, "Ledger").
+// What an attempt asks of the ledger (docs/RULES.md, "Ledger"). In an attempt's bytes the kind tells the places of the names, so nothing is decoded for them: that is the fold's to do.
 use crate::call::Named;
+use cesr::number::read_u8;
 use cesr::primitive::Matter;
 use cesr::primitive::Said;
-use codec_cursor::cursor::Cursor;
-use codec_tel::tel::read_event;
-use events_seal::identifier::Identifier;
-use events_seal::seal::Seal;
-use events_tel::tel::Kind;
-use events_tel::tel::TelEvent;
 use registry_wire::attempt::Attempt;
 ghost use mathlib.Core.Path.{_≡_};
 ghost use mathlib.Core.List.{[]};
-ghost use Rattle.events_tel.specs.TelEvents.{viewEvent};
-ghost use Rattle.registry_laws.specs.Pairs.{pairUnder, pairIn};
-ghost use Rattle.ledger_asked.specs.Names.{about, namedPair, namedEvent, headNamed, decodes};
+ghost use Rattle.ledger_asked.specs.Names.{about, namedPair, namedAt, pairAt, headNamed, decodes};
 
 // A brv that names no pair gets 10.
 fn unpaired() -> Named
@@ -28,37 +21,6 @@ fn unpaired() -> Named
     }
 }
 
-// A brv's registry is the said in its own seal.
-fn named_under(i: Identifier, credential: Said) -> Named
-    ensures { λ r. ⌜ r ≡ namedPair (pairUnder i credential) ⌝ }
-{
-    match i {
-        Identifier::Basic(_) => unpaired(),
-        Identifier::SelfAddressing(registry) => Named {
-            refusal: 0,
-            kind: 4,
-            registry,
-            credential,
-        },
-    }
-}
-
-fn named_in(seal: Seal, credential: Said) -> Named
-    ensures { λ r. ⌜ r ≡ namedPair (pairIn seal credential) ⌝ }
-{
-    let none = unpaired();
-    match seal {
-        Seal::Digest => none,
-        Seal::Root => none,
-        Seal::Source => none,
-        Seal::Event { i, s: _, d: _ } => named_under(i, credential),
-        Seal::Last => none,
-        Seal::Back => none,
-        Seal::Kind => none,
-        Seal::Opaque => none,
-    }
-}
-
 fn about(kind: u8, registry: Said, credential: Said) -> Named
     ensures { λ r. ⌜ r ≡ about kind registry credential ⌝ }
 {
@@ -70,31 +32,45 @@ fn about(kind: u8, registry: Said, credential: Said) -> Named
     }
 }
 
-fn named_event(e: TelEvent, s: &[u8]) -> Named
-    ensures { λ r. ⌜ r ≡ namedEvent (viewEvent (now (s .entry)) e) ⌝ }
+// An iss, a rev or a bis.
+fn named_at(kind: u8, s: &[u8]) -> Named
+    ensures { λ r. ⌜ r ≡ namedAt kind (now (s .entry)) ⌝ }
 {
-    let none = Said(Matter::none());
-    let said = Said::read(s, e.said);
-    let registry = Said::read(s, e.registry);
-    let credential = Said::read(s, e.credential);
-    let seal = e.seal;
-    let kind = e.kind;
-    match kind {
-        Kind::Vcp => about(1, said, none),
-        Kind::Vrt => about(2, registry, none),
-        Kind::Iss => about(3, registry, credential),
-        Kind::Rev => about(4, registry, credential),
-        Kind::Bis => about(3, registry, credential),
-        Kind::Brv => named_in(seal, credential),
-    }
+    let credential = Said::read(s, 35);
+    let registry = Said::read(s, 68);
+    about(kind, registry, credential)
 }
 
-// What the event at the head of the bytes names. What stands behind it is not looked at, so these may be bytes that are no attempt.
+// A brv's registry is the said in its own seal.
+fn named_sealed(s: &[u8]) -> Named
+    ensures { λ r. ⌜ r ≡ namedPair (pairAt (now (s .entry))) ⌝ }
+{
+    let seal = read_u8(s, 106);
+    if seal != 4 {
+        return unpaired();
+    }
+    let i = Matter::read(s, 107);
+    if i.is_basic() {
+        return unpaired();
+    }
+    let credential = Said::read(s, 35);
+    about(4, Said(i), credential)
+}
+
+// What stands at the places of the names. That the bytes are an attempt is not looked at: of others the answer means nothing.
 pub fn named(s: &[u8]) -> Named
     ensures { λ r. ⌜ r ≡ headNamed (now (s .entry)) ⌝ }
 {
-    let e = read_event(Cursor::start(), s);
-    named_event(e.value, s)
+    let none = Said(Matter::none());
+    let kind = read_u8(s, 0);
+    match kind {
+        1 => about(1, Said::read(s, 2), none),
+        2 => about(2, Said::read(s, 35), none),
+        3 => named_at(3, s),
+        4 => named_at(4, s),
+        5 => named_at(3, s),
+        _ => named_sealed(s),
+    }
 }
 
 // Whether the bytes are an attempt.
