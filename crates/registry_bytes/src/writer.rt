@@ -1,7 +1,7 @@
 // The bytes of states: how many there are, and how they are stored.
-use cesr::number::has_room;
 use cesr::number::write_u32;
 use cesr::primitive::Matter;
+use cesr_number::number::has_room;
 use cesr_sn::number::Sn;
 use events::member_set::Members;
 use events_tel::config::Configs;

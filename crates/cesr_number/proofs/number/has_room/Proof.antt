@@ -3,8 +3,8 @@ use Prim.Native.Nat.{_+_}
 use mathlib.Core.Path.{sym}
 use borrow.Author.Tests.{lt-leb}
 use Rattle.laws.proofs.Tests.{leb-sub}
-use Rattle.cesr.proofs.number.has_room.Statement.{statement}
-use Rattle.cesr.proofs.number.has_room.Tie as tie
+use Rattle.cesr_number.proofs.number.has_room.Statement.{statement}
+use Rattle.cesr_number.proofs.number.has_room.Tie as tie
 
 returns : tie.Need-returns
 returns c = let a = c .before .args in sym (lt-leb (a .at + a .n) (a .len) (omega arith))
