@@ -1,9 +1,9 @@
 use mathlib.Core.Path.{_∙_}
 use borrow.Author.Needs.{needs}
 use denote.Ref.{now}
-use Rattle.registry_bytes.proofs.StateWrites.{head-sets}
-use Rattle.registry_bytes.proofs.writer.write_head.Statement.{statement}
-use Rattle.registry_bytes.proofs.writer.write_head.Tie as tie
+use Rattle.registry_head.proofs.HeadWrites.{head-sets}
+use Rattle.registry_head.proofs.head.write_head.Statement.{statement}
+use Rattle.registry_head.proofs.head.write_head.Tie as tie
 
 write-requires : tie.Need-write-requires
 write-requires c κs = search needs

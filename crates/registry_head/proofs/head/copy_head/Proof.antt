@@ -1,10 +1,10 @@
 use mathlib.Core.Path.{_∙_}
 use denote.Ref.{now}
 use Rattle.cesr.specs.Primitives.{readMatter}
-use Rattle.registry_bytes.proofs.StateWrites.{head-sets}
+use Rattle.registry_head.proofs.HeadWrites.{head-sets}
 use borrow.Author.Needs.{needs}
-use Rattle.registry_bytes.proofs.writer.copy_head.Statement.{statement}
-use Rattle.registry_bytes.proofs.writer.copy_head.Tie as tie
+use Rattle.registry_head.proofs.head.copy_head.Statement.{statement}
+use Rattle.registry_head.proofs.head.copy_head.Tie as tie
 
 copy-requires : tie.Need-copy-requires
 copy-requires c κs = search needs
