@@ -13,9 +13,9 @@ use Rattle.events.proofs.Members.{view-size, view-at, has-step, check-found, al
 use Rattle.codec.proofs.Loops.{times-next}
 use Rattle.codec_cursor.specs.Readers.{readPrefix, times}
 use Rattle.codec.proofs.Loops.{length-times}
 use Rattle.registry_rotation.proofs.Listed.{all-listed, current-breaks}
-use Rattle.registry_rotation.proofs.deltas.check_held.Statement.{statement}
-use Rattle.registry_rotation.proofs.deltas.check_held.Tie as tie
+use Rattle.registry_rotation_held.proofs.held.check_held.Statement.{statement}
+use Rattle.registry_rotation_held.proofs.held.check_held.Tie as tie
 
 abbrev Inv-loop2 : tie.InvT-loop2
 Inv-loop2 s rule missing current n m i p x found₀ j₀ found j = (j ≤ m) × (found ≡ has x (take j (view current)))

@@ -1,8 +1,8 @@
 use mathlib.Core.Path.{refl}
 use borrow.Author.Needs.{needs}
 use Rattle.events.specs.Members.{checkCurrent}
-use Rattle.registry_rotation.proofs.deltas.check_current.Statement.{statement}
-use Rattle.registry_rotation.proofs.deltas.check_current.Tie as tie
+use Rattle.registry_rotation_held.proofs.held.check_current.Statement.{statement}
+use Rattle.registry_rotation_held.proofs.held.check_current.Tie as tie
 
 check-held-requires : tie.Need-check-held-requires
 check-held-requires c κs = (refl, refl)
