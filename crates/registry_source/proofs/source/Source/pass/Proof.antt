@@ -1,8 +1,8 @@
 use Rattle.codec_cursor.specs.Readers.{readNumber}
-use Rattle.registry_wire.specs.Attempts.{readSource}
+use Rattle.registry_source.specs.Sources.{readSource}
 use borrow.Author.Needs.{needs}
-use Rattle.registry_wire.proofs.attempt.Source.pass.Statement.{statement}
-use Rattle.registry_wire.proofs.attempt.Source.pass.Tie as tie
+use Rattle.registry_source.proofs.source.Source.pass.Statement.{statement}
+use Rattle.registry_source.proofs.source.Source.pass.Tie as tie
 
 advance-requires : tie.Need-advance-requires
 advance-requires c κs = search needs

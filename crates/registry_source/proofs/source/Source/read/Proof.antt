@@ -1,7 +1,7 @@
-use Rattle.registry_wire.specs.Attempts.{readSource}
+use Rattle.registry_source.specs.Sources.{readSource}
 use borrow.Author.Needs.{needs}
-use Rattle.registry_wire.proofs.attempt.Source.read.Statement.{statement}
-use Rattle.registry_wire.proofs.attempt.Source.read.Tie as tie
+use Rattle.registry_source.proofs.source.Source.read.Statement.{statement}
+use Rattle.registry_source.proofs.source.Source.read.Tie as tie
 
 sn-requires : tie.Need-sn-requires
 sn-requires c κs = search needs

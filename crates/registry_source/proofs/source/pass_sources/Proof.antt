@@ -1,9 +1,9 @@
 use borrow.Author.Tests.{eq-eqb, ne-eqb}
-use Rattle.registry_wire.specs.Attempts.{readSource}
+use Rattle.registry_source.specs.Sources.{readSource}
 use Rattle.codec.proofs.Loops.{section-none, section-one}
 use borrow.Author.Needs.{needs}
-use Rattle.registry_wire.proofs.attempt.pass_sources.Statement.{statement}
-use Rattle.registry_wire.proofs.attempt.pass_sources.Tie as tie
+use Rattle.registry_source.proofs.source.pass_sources.Statement.{statement}
+use Rattle.registry_source.proofs.source.pass_sources.Tie as tie
 
 count-up-to-requires : tie.Need-count-up-to-requires
 count-up-to-requires c κs = search needs
