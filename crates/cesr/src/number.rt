@@ -1,35 +1,14 @@
 // Big-endian numbers in lent bytes (docs/RULES.md, "Bytes").
 // A reader answers 0 where the bytes are not all there. A writer stores all its bytes or none, and answers which.
+use cesr_number::number::has_room;
+use cesr_number::number::join2;
+use cesr_number::number::join4;
 ghost use mathlib.Core.Path.{_≡_};
-ghost use Prim.Native.Nat.{_+_, _*_, _≤_};
+ghost use Prim.Native.Nat.{_+_, _≤_};
 ghost use lib.ListN.{length};
 ghost use lib.Seq.{sets};
-ghost use lib.Dec.{leb};
 ghost use Rattle.laws.specs.Number.{number, numberAt, digits};
 ghost use Rattle.laws.specs.Room.{room, put};
-
-// Whether a slice of len bytes has n from at.
-pub fn has_room(len: usize, at: usize, n: usize) -> bool
-    ensures { λ r. ⌜ r ≡ leb (at + n) len ⌝ }
-{
-    if len < at {
-        return false;
-    }
-    n <= len - at
-}
-
-// Sums of at most four bytes, with no loop: the compiler makes one load and a swap of its bytes of each reader below.
-fn join2(a: u8, b: u8) -> u16
-    ensures { λ r. ⌜ r ≡ a * 256 + b ⌝ }
-{
-    (a as u16) * 0x100 + (b as u16)
-}
-
-fn join4(a: u8, b: u8, c: u8, d: u8) -> u32
-    ensures { λ r. ⌜ r ≡ ((a * 256 + b) * 256 + c) * 256 + d ⌝ }
-{
-    (a as u32) * 0x100_0000 + (b as u32) * 0x1_0000 + (c as u32) * 0x100 + (d as u32)
-}
 
 pub(crate) fn pair(s: &[u8], at: usize) -> u16
     requires { ⌜ at + 2 ≤ length (now s) ⌝ }

@@ -1,7 +1,7 @@
 // A digest or a prefix: a code letter and 32 bytes (docs/RULES.md, "Bytes").
-use crate::number::has_room;
 use crate::number::put_word;
 use crate::number::word;
+use cesr_number::number::has_room;
 ghost use mathlib.Core.Path.{_≡_};
 ghost use Prim.Native.Nat.{_+_, _≤_};
 ghost use lib.ListN.{length};

@@ -9,7 +9,7 @@ use lib.Seq.{sets}
 use Rattle.cesr.specs.Primitives.{readMatter}
 use Rattle.cesr_sn.specs.declared.number.Sn.{Sn}
 use Rattle.codec_cursor.specs.Readers.{Read, starting}
-use Rattle.registry_bytes.specs.StateBytes.{headBytes}
+use Rattle.registry_head.specs.HeadBytes.{headBytes}
 use Rattle.registry_copy.specs.NextStates.{nextBytes}
 use Rattle.registry_copy.specs.declared.next.NextState.{NextState}
 use Rattle.registry_state.specs.States.{Registry, registryBytes, readRegistry}

@@ -2,8 +2,8 @@
 use cesr_sn::number::Sn;
 use host_report::report::report_sized;
 use registry_answer::answer::accept_if;
-use registry_bytes::writer::copy_credential;
 use registry_error::error::RegistryRejection;
+use registry_head::head::copy_credential;
 ghost use mathlib.Core.Path.{_≡_};
 ghost use Rattle.host_next.specs.ByteFolds.{credentialCopied, called, callOf};
 

@@ -14,7 +14,8 @@ use Rattle.codec.specs.Events.{isConfig}
 use Rattle.codec.specs.Layout.{all, goodSaid, goodIdentifier, goodSn, goodToad, goodConfigs, goodPrefixes, isMatter}
 use Rattle.registry_signatures.specs.SignatureSections.{goodSignature}
 use Rattle.registry_state_credential.specs.CredentialStates.{wellCredential}
-use Rattle.registry_wire.specs.Attempts.{goodMessage, goodSource, goodAnchors, goodAnchor}
+use Rattle.registry_source.specs.Sources.{goodSource}
+use Rattle.registry_wire.specs.Attempts.{goodMessage, goodAnchors, goodAnchor}
 use Rattle.registry_error.specs.declared.error.RegistryRejection.the-variants.{Malformed}
 use Rattle.registry_answer.specs.Answers.{acceptIf, firstOf}
 use Rattle.registry_verification.specs.Receipts.{hasGood, receipts}

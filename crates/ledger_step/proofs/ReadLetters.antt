@@ -20,7 +20,8 @@ use Rattle.codec.specs.Events.{eventSeal, sealOf, vcpOf, vrtOf, issOf, revOf, b
 use Rattle.codec_laws.proofs.Stands.{went, passed}
 use Rattle.registry_state.specs.States.{registryOf, readRegistry}
 use Rattle.registry_signatures.specs.SignatureSections.{signatureOf, readSignature}
-use Rattle.registry_wire.specs.Attempts.{Message, decodeOf, sourceOf, anchorOf, issuerOf, messageOf, readSource, readSeals, readAnchor, readAnchors, readIssuer, readBackerAt, readEvidence, readMessage}
+use Rattle.registry_source.specs.Sources.{sourceOf, readSource}
+use Rattle.registry_wire.specs.Attempts.{Message, decodeOf, anchorOf, issuerOf, messageOf, readSeals, readAnchor, readAnchors, readIssuer, readBackerAt, readEvidence, readMessage}
 use Rattle.registry_wire.specs.Attempts.Evidence.{backerAt}
 use Rattle.registry_wire.specs.Attempts.Decoded.{malformed, decoded}
 

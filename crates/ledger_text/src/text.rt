@@ -1,5 +1,5 @@
 // The program's lines (docs/RULES.md, "What the program prints"). A line is written at the start of a buffer, whole or not at all.
-use cesr::number::has_room;
+use cesr_number::number::has_room;
 ghost use mathlib.Core.Path.{_≡_};
 ghost use mathlib.Core.Bool.{cond};
 ghost use mathlib.Core.List.{[], _∷_, _++_};

@@ -14,7 +14,7 @@ use Rattle.cesr.specs.declared.primitive.Matter.{Matter}
 use Rattle.cesr.specs.declared.primitive.Said.{Said}
 use Rattle.codec.specs.Layout.{joined, all}
 use Rattle.registry_wire.specs.Attempts.{Anchor, anchorBytes, goodAnchor, goodAnchors}
-use Rattle.registry_wire.specs.declared.attempt.Source.{Source}
+use Rattle.registry_source.specs.declared.source.Source.{Source}
 use Rattle.registry_wire.proofs.AttemptLaws.{anchor-some}
 use Rattle.registry_wire.proofs.AnchorLaws.{event-head, event-seals, one-event}
 use Rattle.registry_authentication.specs.Issuers.{anchored, anchoredIn}

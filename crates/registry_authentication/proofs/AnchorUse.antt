@@ -19,12 +19,13 @@ use Rattle.cesr_sn.specs.declared.number.Sn.{Sn}
 use Rattle.cesr.specs.declared.primitive.Matter.{Matter}
 use Rattle.cesr.specs.declared.primitive.Said.{Said}
 use Rattle.codec.specs.Layout.{joined, all, goodEvent, goodIdentifier}
-use Rattle.registry_wire.specs.Attempts.{Anchor, Decoded, anchorBytes, goodAnchors, goodSource, goodEvidence, goodMessage, chosenAnchors, anchorsIn, sourcesIn, evidenceOf, evidenceAs, evidenceIn, viewAttempt, viewDecoded, decodeOf, partOf, Holds}
+use Rattle.registry_source.specs.Sources.{goodSource}
+use Rattle.registry_wire.specs.Attempts.{Anchor, Decoded, anchorBytes, goodAnchors, goodEvidence, goodMessage, chosenAnchors, anchorsIn, sourcesIn, evidenceOf, evidenceAs, evidenceIn, viewAttempt, viewDecoded, decodeOf, partOf, Holds}
 use Rattle.registry_signatures.specs.SignatureSections.{goodSignature}
 use Rattle.registry_seals.specs.SealSections.{chosen}
 use Rattle.registry_wire.specs.Attempts.Evidence.{issuer}
 use Rattle.registry_wire.specs.Attempts.Decoded.{malformed, decoded}
-use Rattle.registry_wire.specs.declared.attempt.Source.{Source}
+use Rattle.registry_source.specs.declared.source.Source.{Source}
 use Rattle.registry_wire.specs.declared.attempt.Part.{Part}
 use Rattle.registry_wire.specs.declared.attempt.Attempt.{Attempt}
 use Rattle.registry_wire.specs.declared.attempt.DecodedAttempt.{DecodedAttempt}

@@ -15,7 +15,7 @@ use Rattle.registry_seals.specs.SealSections.{onlySeal, sealSection, anchorSeal
 use Rattle.registry_wire.specs.Attempts.Evidence.{missing, issuer, backer, backerAt}
 use Rattle.registry_wire.specs.Attempts.{goodAnchors, anchorsIn, Holds}
 use Rattle.registry_wire.specs.declared.attempt.Attempt.{Attempt}
-use Rattle.registry_wire.specs.declared.attempt.Source.{Source}
+use Rattle.registry_source.specs.declared.source.Source.{Source}
 use Rattle.registry_error.specs.declared.error.RegistryRejection.the-variants.{MissingIssuer, InconsistentIssuer, MissingAnchor, InconsistentAnchor}
 use Rattle.registry_error.specs.declared.error.Answer.{Answer}
 use Rattle.registry_error.specs.declared.error.Answer.the-variants.{Accepted, Rejected}

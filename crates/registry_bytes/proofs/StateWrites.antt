@@ -1,8 +1,8 @@
 -- Laws of the bytes of states.
---     length-head, length-rest, length-front, length-state     how many bytes there are
+--     length-rest, length-front, length-state     how many bytes there are
 --     config-step, backer-step   how a loop writes a section, an element a turn
 --     part-stored            a run stored at the start of a lent part is that run stored in the whole
---     head-sets, rest-sets, front-sets, state-sets   the parts of a state, one behind the other
+--     rest-sets, front-sets, state-sets   the parts of a state, one behind the other
 --     state-front            a state is what stands before its backers, then they
 use Prim.Native.Nat.{ℕ, suc, _+_, _-_, _*_, _<_, _≤_}
 use mathlib.Core.Path.{_≡_, refl, ap, sym, _∙_}
@@ -20,13 +20,13 @@ use Rattle.laws.proofs.Views.{take-step}
 use Rattle.cesr_sn.specs.declared.number.Sn.{Sn}
 use Rattle.cesr.specs.declared.primitive.Matter.{Matter}
 use Rattle.cesr.specs.declared.primitive.BasicPrefix.{BasicPrefix}
-use Rattle.cesr_sn.specs.Numbers.{value, snBytes}
-use Rattle.cesr.specs.Primitives.{matterBytes}
 use Rattle.cesr.proofs.Matters.{length-matter}
 use Rattle.events.specs.Members.{noPrefix, at}
 use Rattle.codec.specs.Layout.{joined, sectionBytes, byteBytes, prefixBytes}
 use Rattle.codec_laws.proofs.CodesList.{joined-snoc}
-use Rattle.registry_bytes.specs.StateBytes.{headBytes, restBytes, frontBytes, stateBytes}
+use Rattle.registry_head.specs.HeadBytes.{headBytes}
+use Rattle.registry_head.proofs.HeadWrites.{length-head}
+use Rattle.registry_bytes.specs.StateBytes.{restBytes, frontBytes, stateBytes}
 
 module _ {A : Type 0} (f : A → List ℕ) (k : ℕ) (each : (x : A) → length (f x) ≡ k) where
   length-joined : (l : List A) → length (joined f l) ≡ k * length l
@@ -45,14 +45,6 @@ module _ {A : Type 0} (f : A → List ℕ) (k : ℕ) (each : (x : A) → length 
   section-step b l i d h =
       rw
       (joined-step l i d h, sets-append b 1 (joined f (take i l)) (f (getD l i d)), length-joined (take i l), length-take-le i l (omega arith))
-
-pub length-sn : (n : Sn) → length (snBytes n) ≡ 16
-unfolding snBytes
-length-sn n = length-digits 16 (value n)
-
-pub length-head : (a b : Matter) (n : Sn) (d : Matter) → length (headBytes a b n d) ≡ 115
-unfolding headBytes
-length-head a b n d = simp (length-append, length-matter, length-sn)
 
 pub length-configs : (l : List ℕ) → length (sectionBytes byteBytes l) ≡ 1 + length l
 length-configs l = length-section byteBytes 1 (λ x. refl) l ∙ omega arith
@@ -97,23 +89,6 @@ part-sets a l vs h =
 
 pub part-stored : (a : ℕ) (l m vs : List ℕ) → a ≤ length l → m ≡ sets (midOf a (length l - a) l) 0 vs → putMid a (length l - a) l m ≡ sets l a vs
 part-stored a l m vs h e = ap (putMid a (length l - a) l) e ∙ part-sets a l vs h
-
--- one more run behind a run that was stored
-stored-more : (l : List ℕ) (at n m : ℕ) (vs ws : List ℕ) → length vs ≡ n → length ws ≡ m → at + n + m ≤ length l → put (sets l at vs) (at + n) ws ≡ sets l at (vs ++ ws)
-stored-more l at n m vs ws e f h = put-sets (sets l at vs) (at + n) m ws f (rw length-sets h) ∙ sym (rw (sets-append, e))
-
-pub head-sets : (l : List ℕ) (at : ℕ) (a b : Matter) (n : Sn) (d : Matter) → at + 115 ≤ length l → put (put (put (put l at (matterBytes a)) (at + 33) (matterBytes b)) (at + 66) (snBytes n)) (at + 82) (matterBytes d) ≡ sets l at (headBytes a b n d)
-unfolding headBytes
-head-sets l at a b n d h =
-    let x = matterBytes a in
-    let y = matterBytes b in
-    let z = snBytes n in
-    let w = matterBytes d in
-    let two : length (x ++ y) ≡ 66 = rw (length-append, length-matter, length-matter) in
-    let three : length ((x ++ y) ++ z) ≡ 82 = rw (length-append, two, length-sn) in
-    let p : put l at x ≡ sets l at x = put-sets l at 33 x (length-matter a) (omega arith) in
-    rw (p, stored-more l at 33 33 x y (length-matter a) (length-matter b) (omega arith), stored-more l at 66 16 (x ++ y) z two (length-sn n) (omega arith), stored-more l at 82 33 ((x ++ y) ++ z) w three (length-matter d) (omega arith))
-    (simp append-assoc)
 
 pub rest-sets : (l : List ℕ) (at toad : ℕ) (configs : List ℕ) (backers : List BasicPrefix) → at + 4 ≤ length l → sets (sets (put l at (digits 4 toad)) (at + 4) (sectionBytes byteBytes configs)) (at + 4 + 1 + length configs) (sectionBytes prefixBytes backers) ≡ sets l at (restBytes toad configs backers)
 unfolding restBytes

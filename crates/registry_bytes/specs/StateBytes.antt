@@ -2,16 +2,11 @@
 use Prim.Native.Nat.{ℕ}
 use mathlib.Core.List.{List, _++_}
 use Rattle.laws.specs.Number.{digits}
-use Rattle.cesr_sn.specs.Numbers.{snBytes}
-use Rattle.cesr.specs.Primitives.{matterBytes}
 use Rattle.cesr_sn.specs.declared.number.Sn.{Sn}
 use Rattle.cesr.specs.declared.primitive.Matter.{Matter}
 use Rattle.cesr.specs.declared.primitive.BasicPrefix.{BasicPrefix}
 use Rattle.codec.specs.Layout.{sectionBytes, prefixBytes, byteBytes}
-
--- what a credential state is, and what a registry state begins with: two primitives, a number, a primitive
-unfoldable pub headBytes : Matter → Matter → Sn → Matter → List ℕ
-headBytes a b n d = matterBytes a ++ (matterBytes b ++ (snBytes n ++ matterBytes d))
+use Rattle.registry_head.specs.HeadBytes.{headBytes}
 
 -- what stands behind the head of a registry state
 unfoldable pub restBytes : ℕ → List ℕ → List BasicPrefix → List ℕ

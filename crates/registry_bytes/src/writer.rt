@@ -1,11 +1,13 @@
 // The bytes of states: how many there are, and how they are stored.
-use cesr::number::has_room;
 use cesr::number::write_u32;
 use cesr::primitive::Matter;
+use cesr_number::number::has_room;
 use cesr_sn::number::Sn;
 use events::member_set::Members;
 use events_tel::config::Configs;
 use events_toad::toad::Toad;
+use registry_head::head::copy_credential;
+use registry_head::head::write_credential;
 ghost use mathlib.Core.Path.{_≡_};
 ghost use Prim.Native.Nat.{_+_, _*_, _≤_};
 ghost use lib.ListN.{length};
@@ -15,24 +17,13 @@ ghost use Rattle.cesr.specs.Primitives.{readMatter};
 ghost use Rattle.events_tel.specs.Configs.{viewConfigs};
 ghost use Rattle.events.specs.Members.{view};
 ghost use Rattle.codec.specs.Layout.{sectionBytes, byteBytes, prefixBytes};
-ghost use Rattle.registry_bytes.specs.StateBytes.{headBytes, restBytes, frontBytes, stateBytes};
+ghost use Rattle.registry_bytes.specs.StateBytes.{restBytes, frontBytes, stateBytes};
 
 // How many bytes a registry state has: 121, the config bytes, and 33 for each backer.
 pub fn state_size(configs: Configs, backers: Members) -> usize
     ensures { λ r. ⌜ r ≡ 121 + length (viewConfigs configs) + 33 * length (view backers) ⌝ }
 {
     121 + configs.size() + 33 * backers.size()
-}
-
-// The fields of a credential state. Stores all 115 bytes or none, and answers which.
-pub fn write_credential(out: &mut [u8], at: usize, a: Matter, b: Matter, sn: Sn, d: Matter) -> bool
-    ensures { λ r. ⌜ (r ≡ room (now (out .entry)) at 115) × (now (out .exit) ≡ put (now (out .entry)) at (headBytes a b sn d)) ⌝ }
-{
-    if !has_room(out.len(), at, 115) {
-        return false;
-    }
-    write_head(out, at, a, b, sn, d);
-    true
 }
 
 // The fields of a registry state. Stores all its bytes or none, and answers which.
@@ -52,9 +43,9 @@ pub fn write_registry(
     if !has_room(out.len(), at, state_size(configs, backers)) {
         return false;
     }
-    // The list is handed on before anything is stored, so that it is copied once.
+    // The list is handed on before anything is stored, so that it is copied once. What stands before it is laid out as a credential state.
     write_rest(out, at + 115, toad, configs, backers);
-    write_head(out, at, a, b, sn, d);
+    write_credential(out, at, a, b, sn, d);
     true
 }
 
@@ -75,52 +66,11 @@ pub fn copy_front(
     if !has_room(out.len(), 0, 120 + configs.size()) {
         return false;
     }
-    copy_head(held, id, issuer, sn, s, latest, out);
+    copy_credential(held, id, issuer, sn, s, latest, out);
     write_u32(out, 115, toad.value());
     let from: usize = 119;
     write_configs(&mut out[from..], configs);
     true
-}
-
-// A credential state in the same way: its registry and credential stand in one slice, the digest of its last event in another. Stores all 115 bytes or none, and answers which.
-pub fn copy_credential(
-    held: &[u8],
-    registry: usize,
-    credential: usize,
-    sn: Sn,
-    s: &[u8],
-    head: usize,
-    out: &mut [u8],
-) -> bool
-    ensures { λ r. ⌜ (r ≡ room (now (out .entry)) 0 115) × (now (out .exit) ≡ put (now (out .entry)) 0 (headBytes (readMatter (now (held .entry)) registry) (readMatter (now (held .entry)) credential) sn (readMatter (now (s .entry)) head))) ⌝ }
-{
-    if !has_room(out.len(), 0, 115) {
-        return false;
-    }
-    copy_head(held, registry, credential, sn, s, head, out);
-    true
-}
-
-// The head of a state, copied from where it stands.
-fn copy_head(held: &[u8], id: usize, issuer: usize, sn: Sn, s: &[u8], latest: usize, out: &mut [u8])
-    requires { ⌜ 115 ≤ length (now out) ⌝ }
-    ensures { λ r. ⌜ now (out .exit) ≡ sets (now (out .entry)) 0 (headBytes (readMatter (now (held .entry)) id) (readMatter (now (held .entry)) issuer) sn (readMatter (now (s .entry)) latest)) ⌝ }
-{
-    Matter::copy(held, id, out, 0);
-    Matter::copy(held, issuer, out, 33);
-    sn.write(out, 66);
-    Matter::copy(s, latest, out, 82);
-}
-
-// Two primitives, a number and a primitive, in 115 bytes.
-fn write_head(out: &mut [u8], at: usize, a: Matter, b: Matter, sn: Sn, d: Matter)
-    requires { ⌜ at + 115 ≤ length (now out) ⌝ }
-    ensures { λ r. ⌜ now (out .exit) ≡ sets (now (out .entry)) at (headBytes a b sn d) ⌝ }
-{
-    a.write(out, at);
-    b.write(out, at + 33);
-    sn.write(out, at + 66);
-    d.write(out, at + 82);
 }
 
 // The threshold and the two sections of a registry state.

@@ -18,7 +18,8 @@ use Rattle.events_tel.specs.declared.tel.Kind.the-variants.{Vcp, Vrt, Iss, Rev,
 use Rattle.events_tel.specs.declared.tel.TelEvent.{TelEvent}
 use Rattle.codec.specs.Layout.{all, goodEvent}
 use Rattle.registry_state.specs.States.{Registry, noRegistry}
-use Rattle.registry_wire.specs.Attempts.{Message, Decoded, goodSource, goodAnchors, goodEvidence, goodMessage, viewAttempt, viewDecoded, decodeOf}
+use Rattle.registry_source.specs.Sources.{goodSource}
+use Rattle.registry_wire.specs.Attempts.{Message, Decoded, goodAnchors, goodEvidence, goodMessage, viewAttempt, viewDecoded, decodeOf}
 use Rattle.registry_wire.specs.Attempts.Decoded.{malformed, decoded}
 use Rattle.registry_wire.proofs.CodesAttempt.{decodes}
 use Rattle.registry_signatures.specs.SignatureSections.{goodSignature}

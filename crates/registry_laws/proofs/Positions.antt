@@ -28,7 +28,7 @@ use Rattle.registry_wire.specs.Attempts.{Message, Anchor, Evidence, decodeOf}
 use Rattle.registry_signatures.specs.SignatureSections.{Signature}
 use Rattle.registry_wire.specs.Attempts.Decoded.{decoded}
 use Rattle.registry_wire.specs.Attempts.Evidence.{missing, issuer, backer, backerAt}
-use Rattle.registry_wire.specs.declared.attempt.Source.{Source}
+use Rattle.registry_source.specs.declared.source.Source.{Source}
 use Rattle.registry_answer.specs.Answers.{acceptIf, backerSet}
 use Rattle.registry_error.specs.declared.error.Answer.{Answer}
 use Rattle.registry_error.specs.declared.error.Answer.the-variants.{Rejected}

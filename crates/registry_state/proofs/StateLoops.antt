@@ -11,7 +11,8 @@ use native.Mathlib.Omega.{arith}
 use lib.ListN.{length, getD}
 use Rattle.laws.proofs.Tests.{and-left, and-right}
 use Rattle.codec.specs.Layout.{all}
-use Rattle.registry_bytes.specs.StateBytes.{headBytes, restBytes, stateBytes}
+use Rattle.registry_head.specs.HeadBytes.{headBytes}
+use Rattle.registry_bytes.specs.StateBytes.{restBytes, stateBytes}
 use Rattle.registry_bytes.proofs.StateWrites.{length-state}
 use Rattle.registry_state.specs.States.{Registry, registryBytes}
 

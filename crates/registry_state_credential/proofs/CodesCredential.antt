@@ -20,8 +20,8 @@ use Rattle.codec_cursor.specs.Readers.{placed}
 use Rattle.codec.specs.Layout.{isMatter, goodSaid, goodSn}
 use Rattle.codec_laws.proofs.CodesRound.{codes-back, codes-again}
 use Rattle.codec_laws.proofs.Codes.{Codes, and-true, codes-map, codes-both, codes-sn, codes-said}
-use Rattle.registry_bytes.specs.StateBytes.{headBytes}
-use Rattle.registry_bytes.proofs.StateWrites.{length-head}
+use Rattle.registry_head.specs.HeadBytes.{headBytes}
+use Rattle.registry_head.proofs.HeadWrites.{length-head}
 use Rattle.registry_state_credential.specs.CredentialStates.{credentialBytes, goodCredential, credentialOf, readCredential, wellCredential, rangedCredential}
 use Rattle.registry_state_credential.specs.declared.state.CredentialState.{CredentialState}
 

@@ -3,7 +3,7 @@ use cesr::primitive::Matter;
 use cesr::primitive::Said;
 use cesr_sn::number::Sn;
 use codec_cursor::cursor::Cursor;
-use registry_bytes::writer::write_credential;
+use registry_head::head::write_credential;
 ghost use mathlib.Core.Path.{_≡_};
 ghost use Rattle.laws.specs.Room.{room, put};
 ghost use Rattle.registry_state_credential.specs.CredentialStates.{credentialBytes, readCredential, viewCredentialRead, viewCredentialAt, noCredential, wellCredential};

@@ -26,7 +26,7 @@ use Rattle.codec_cursor.specs.Readers.{placed, Read, starting, readNumber, read
 use Rattle.codec.specs.Layout.{joined, sectionBytes, all, saidBytes, sealBytes, goodIdentifier, goodSn, goodSaid, goodSeal}
 use Rattle.codec_laws.proofs.Stands.{Stands, stands-first, stands-rest, whole-stands}
 use Rattle.codec_laws.proofs.Codes.{codes-sn, codes-said, codes-identifier}
-use Rattle.registry_bytes.proofs.StateWrites.{length-sn}
+use Rattle.registry_head.proofs.HeadWrites.{length-sn}
 use Rattle.registry_wire.specs.Attempts.{Anchor, anchorBytes, goodAnchor, chosenAnchors, anchorsIn, partOf, Holds}
 use Rattle.registry_seals.specs.SealSections.{chosen, sealSection, onlySeal, anchorSeals}
 use Rattle.registry_wire.specs.declared.attempt.Part.{Part}

@@ -25,11 +25,12 @@ use Rattle.codec.proofs.Loops.{count-within}
 use Rattle.codec_laws.proofs.Codes.{codes-after}
 use Rattle.codec_laws.proofs.CodesList.{codes-times, codes-section}
 use Rattle.registry_state.specs.States.{readRegistry}
-use Rattle.registry_wire.specs.Attempts.{Anchor, Decoded, anchorBytes, goodAnchor, readSource, readAnchor, readAnchors, readIssuer, readBackerAt, readEvidence, readMessage, decodeOf, anchorsIn, evidenceOf, evidenceAs, partOf, Holds, ReadAs, passedAnchors}
+use Rattle.registry_source.specs.Sources.{readSource}
+use Rattle.registry_wire.specs.Attempts.{Anchor, Decoded, anchorBytes, goodAnchor, readAnchor, readAnchors, readIssuer, readBackerAt, readEvidence, readMessage, decodeOf, anchorsIn, evidenceOf, evidenceAs, partOf, Holds, ReadAs, passedAnchors}
 use Rattle.registry_signatures.specs.SignatureSections.{signatureBytes, goodSignature, readSignature, signaturesIn, passedSignatures}
 use Rattle.registry_wire.specs.Attempts.Evidence.{missing, issuer, backer}
 use Rattle.registry_wire.specs.Attempts.Decoded.{malformed, decoded}
-use Rattle.registry_wire.specs.declared.attempt.Source.{Source}
+use Rattle.registry_source.specs.declared.source.Source.{Source}
 use Rattle.registry_wire.specs.declared.attempt.Part.{Part}
 use Rattle.registry_wire.specs.declared.attempt.AnchorsRead.{AnchorsRead}
 use Rattle.registry_wire.specs.declared.attempt.EvidenceRead.{EvidenceRead}

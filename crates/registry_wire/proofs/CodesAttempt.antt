@@ -28,11 +28,12 @@ use Rattle.codec_laws.proofs.CodesEvent.{codes-event}
 use Rattle.codec_laws.proofs.CodesPlain.{plain, plain-told}
 use Rattle.codec_laws.proofs.CodesRound.{whole-sound, whole-complete}
 use Rattle.registry_state.specs.States.{registryBytes, readRegistry}
-use Rattle.registry_wire.specs.Attempts.{Anchor, Evidence, Message, sourceBytes, anchorBytes, evidenceBytes, attemptBytes, goodSource, goodAnchor, goodAnchors, goodEvidence, goodMessage, sourceOf, readSource, readSeals, anchorOf, readAnchor, readAnchors, issuerOf, readIssuer, readBackerAt, readEvidence, messageOf, readMessage, decodeOf}
+use Rattle.registry_source.specs.Sources.{sourceBytes, goodSource, sourceOf, readSource}
+use Rattle.registry_wire.specs.Attempts.{Anchor, Evidence, Message, anchorBytes, evidenceBytes, attemptBytes, goodAnchor, goodAnchors, goodEvidence, goodMessage, readSeals, anchorOf, readAnchor, readAnchors, issuerOf, readIssuer, readBackerAt, readEvidence, messageOf, readMessage, decodeOf}
 use Rattle.registry_signatures.specs.SignatureSections.{Signature, signatureBytes, goodSignature, signatureOf, readSignature}
 use Rattle.registry_wire.specs.Attempts.Evidence.{missing, issuer, backer, backerAt}
 use Rattle.registry_wire.specs.Attempts.Decoded.{malformed, decoded}
-use Rattle.registry_wire.specs.declared.attempt.Source.{Source}
+use Rattle.registry_source.specs.declared.source.Source.{Source}
 use Rattle.registry_state.proofs.CodesState.{codes-registry}
 
 sourceParts : Source → Sn × Said

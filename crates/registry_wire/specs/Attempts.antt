@@ -17,12 +17,12 @@ use Rattle.codec_cursor.specs.Readers.{Read, Reader, placed, starting, need, re
 use Rattle.codec.specs.Events.{readSeal, readEvent}
 use Rattle.codec.specs.Layout.{joined, sectionBytes, all, saidBytes, sealBytes, eventBytes, goodSaid, goodIdentifier, goodSn, goodSeal, goodEvent}
 use Rattle.registry_state.specs.States.{Registry, registryBytes, goodRegistry, readRegistry}
+use Rattle.registry_source.specs.Sources.{sourceBytes, goodSource, readSource}
+use Rattle.registry_source.specs.declared.source.Source.{Source}
 use Rattle.registry_signatures.specs.SignatureSections.{Signature, signatureBytes, goodSignature, readSignature, signaturesIn}
-use Rattle.registry_wire.specs.declared.attempt.Source.{Source}
 use Rattle.registry_wire.specs.declared.attempt.Part.{Part}
 use Rattle.registry_wire.specs.declared.attempt.DecodedAttempt.{DecodedAttempt}
 use Rattle.registry_wire.specs.declared.attempt.Attempt.{Attempt}
-use Rattle.registry_wire.specs.declared.attempt.SourcesRead.{SourcesRead}
 use Rattle.registry_wire.specs.declared.attempt.AnchorsRead.{AnchorsRead}
 use Rattle.registry_wire.specs.declared.attempt.EvidenceRead.{EvidenceRead}
 
@@ -49,9 +49,6 @@ pub record Message : Type 0 where
   pub signatures : List Signature
   pub evidence : Evidence
 
-abbrev pub sourceBytes : Source → List ℕ
-sourceBytes x = snBytes (x .sn) ++ saidBytes (x .said)
-
 abbrev pub anchorBytes : Anchor → List ℕ
 anchorBytes x = matterBytes (x .prefix) ++ (snBytes (x .sn) ++ (saidBytes (x .said) ++ sectionBytes sealBytes (x .seals)))
 
@@ -69,9 +66,6 @@ attemptBytes a =
     ++ (sectionBytes anchorBytes (a .anchor) ++ (sectionBytes signatureBytes (a .signatures) ++ sectionBytes evidenceBytes (a .evidence ∷ []))))
 
 -- the limits: at most 8 seals, 64 signatures, one source, one anchoring event
-unfoldable pub goodSource : Source → Bool
-goodSource x = goodSn (x .sn) && goodSaid (x .said)
-
 unfoldable pub goodAnchor : Anchor → Bool
 goodAnchor x =
     goodIdentifier (x .prefix) && (goodSn (x .sn) && (goodSaid (x .said) && (leb (length (x .seals)) 8 && all goodSeal (x .seals))))
@@ -92,12 +86,6 @@ goodMessage a =
     && (goodAnchors (a .anchor) && ((leb (length (a .signatures)) 64 && all goodSignature (a .signatures)) && goodEvidence (a .evidence))))
 
 -- how the parts are read
-abbrev pub sourceOf : Sn × Said → Source
-sourceOf t = record { sn = t .0; said = t .1 }
-
-unfoldable pub readSource : Reader Source
-readSource s c = mapped sourceOf (both readNumber readSaid) s c
-
 unfoldable pub readSeals : Reader (List Seal)
 readSeals s c = section 8 readSeal s c
 
@@ -175,10 +163,6 @@ viewDecoded s r = cond (r .ok) (decoded (viewAttempt s (r .attempt))) malformed
 abbrev pub chosenAnchors : List Anchor → List Anchor → List Anchor
 chosenAnchors [] message = message
 chosenAnchors (x ∷ l) message = x ∷ l
-
--- what the structs of the code stand for
-abbrev pub viewSources : List ℕ → SourcesRead → Read (List Source)
-viewSources s r = record { value = cond (eqb (r .count) 0) [] (readSource s (r .source) .value ∷ []); next = r .next }
 
 -- where a section's anchoring event stands, behind the count byte, and the cursor behind them
 unfoldable pub passedAnchors : List ℕ → Cursor → AnchorsRead

@@ -1,6 +1,4 @@
 // An attempt: an event, its source, the message's anchoring event, signatures and evidence.
-use cesr::primitive::Said;
-use cesr_sn::number::Sn;
 use codec::section::count_up_to;
 use codec_cursor::cursor::Cursor;
 use codec_seal::seal::pass_seals;
@@ -8,17 +6,11 @@ use codec_tel::tel::read_event;
 use events_tel::tel::TelEvent;
 use registry_signatures::signatures::Counted;
 use registry_signatures::signatures::pass_signatures;
+use registry_source::source::pass_sources;
 use registry_state::state::RegistryState;
 ghost use mathlib.Core.Path.{_≡_};
 ghost use mathlib.Core.Bool.{true};
-ghost use Rattle.codec_cursor.specs.Readers.{section};
-ghost use Rattle.registry_wire.specs.Attempts.{readSource, readAnchor, readIssuer, readBackerAt, readEvidence, viewSources, passedAnchors, partOf, Holds, ReadAs, viewDecoded, decodeOf};
-
-// The sn and the said of the anchoring event, as the attempt states them.
-pub struct Source {
-    pub sn: Sn,
-    pub said: Said,
-}
+ghost use Rattle.registry_wire.specs.Attempts.{readAnchor, readIssuer, readBackerAt, readEvidence, passedAnchors, partOf, Holds, ReadAs, viewDecoded, decodeOf};
 
 // A part of the attempt's bytes. An empty one stands for nothing.
 pub struct Part {
@@ -47,12 +39,6 @@ pub struct Attempt {
 pub struct DecodedAttempt {
     pub ok: bool,
     pub attempt: Attempt,
-}
-
-struct SourcesRead {
-    count: usize,
-    source: Cursor,
-    next: Cursor,
 }
 
 struct AnchorsRead {
@@ -87,48 +73,6 @@ impl Part {
             return &s[from..to];
         }
         &s[from..]
-    }
-}
-
-impl Source {
-    // The source that stands where the cursor is.
-    pub fn read(c: Cursor, s: &[u8]) -> Source
-        ensures { λ r. ⌜ r ≡ readSource (now (s .entry)) c .value ⌝ }
-    {
-        let n = c.sn(s);
-        let d = n.next.said(s);
-        let sn = n.value;
-        let said = d.value;
-        Source { sn, said }
-    }
-
-    // Behind it, where it keeps to its layout.
-    fn pass(c: Cursor, s: &[u8]) -> Cursor
-        ensures { λ r. ⌜ r ≡ readSource (now (s .entry)) c .next ⌝ }
-    {
-        c.advance(s, 16).pass_said(s)
-    }
-}
-
-// Behind section 7: at most one source.
-fn pass_sources(c: Cursor, s: &[u8]) -> SourcesRead
-    ensures { λ r. ⌜ viewSources (now (s .entry)) r ≡ section 1 readSource (now (s .entry)) c ⌝ }
-{
-    let n = count_up_to(c, s, 1);
-    let count = n.value;
-    let source = n.next;
-    if count == 0 {
-        return SourcesRead {
-            count,
-            source,
-            next: source,
-        };
-    }
-    let next = Source::pass(source, s);
-    SourcesRead {
-        count,
-        source,
-        next,
     }
 }
 

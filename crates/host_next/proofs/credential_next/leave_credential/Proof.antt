@@ -2,8 +2,8 @@ use denote.Ref.{now}
 use mathlib.Core.Path.{sym, ap, _∙_}
 use Rattle.laws.specs.Room.{room}
 use Rattle.cesr.specs.Primitives.{readMatter}
-use Rattle.registry_bytes.specs.StateBytes.{headBytes}
-use Rattle.registry_bytes.proofs.StateWrites.{length-head}
+use Rattle.registry_head.specs.HeadBytes.{headBytes}
+use Rattle.registry_head.proofs.HeadWrites.{length-head}
 use Rattle.host_next.proofs.Calls.{next-left}
 use borrow.Author.Needs.{needs}
 use Rattle.host_next.proofs.credential_next.leave_credential.Statement.{statement}

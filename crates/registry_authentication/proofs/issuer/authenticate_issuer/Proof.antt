@@ -5,7 +5,8 @@ use borrow.Author.Tests.{not-true, not-false}
 use Rattle.cesr.specs.Primitives.{readMatter, saidAt}
 use Rattle.registry_state.specs.States.{readRegistry, optional}
 use Rattle.registry_seals.specs.SealSections.{chosen}
-use Rattle.registry_wire.specs.Attempts.{readSource, partOf}
+use Rattle.registry_source.specs.Sources.{readSource}
+use Rattle.registry_wire.specs.Attempts.{partOf}
 use Rattle.registry_authentication.specs.Issuers.{anchoredIn, authenticateIn}
 use Rattle.registry_authentication.proofs.EvidenceLaws.{wrong-kind, wrong-prefix, by-anchor}
 use Rattle.registry_authentication.proofs.issuer.authenticate_issuer.Statement.{statement}

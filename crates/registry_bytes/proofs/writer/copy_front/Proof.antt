@@ -9,11 +9,13 @@ use denote.Ref.{now}
 use lib.Dec.{leb}
 use lib.ListN.{length}
 use lib.Seq.{sets}
-use Rattle.laws.proofs.Room.{stored, refused}
+use Rattle.laws.proofs.Room.{stored, refused, put-sets}
 use Rattle.cesr.specs.Primitives.{readMatter}
 use Rattle.events_tel.specs.Configs.{viewConfigs}
 use Rattle.events_tel.proofs.Configs.{view-size}
 use Rattle.codec.specs.Layout.{sectionBytes, byteBytes}
+use Rattle.registry_head.specs.HeadBytes.{headBytes}
+use Rattle.registry_head.proofs.HeadWrites.{length-head}
 use Rattle.registry_bytes.specs.StateBytes.{frontBytes}
 use Rattle.registry_bytes.proofs.StateWrites.{length-front, part-stored, front-sets}
 use borrow.Author.Needs.{needs}
@@ -61,8 +63,8 @@ returns c =
     refused (now (s .args .out)) 0 (length (bytes s)) (bytes s) refl
     (rw (size-bytes s, ← b2 .size .ensures) (sym (c .before .has-room .ensures) ∙ not-true _ (c .if1 .taken)))
 
-copy-head-requires : tie.Need-copy-head-requires
-copy-head-requires c κs = omega (arith, fits (c .before))
+copy-credential-requires : tie.Need-copy-credential-requires
+copy-credential-requires c κs = search needs
 
 value-requires : tie.Need-value-requires
 value-requires c κs = search needs
@@ -71,10 +73,10 @@ write-u32-requires : tie.Need-write-u32-requires
 write-u32-requires c κs = search needs
 
 sub-write-configs : tie.Need-sub-write-configs
-sub-write-configs c = omega (arith, fits (c .before .before .before .before .before .before .before .before .before), c .before .before .write-u32 .kept .0, c .before .before .before .before .before .before .before .copy-head .kept .1 .1 .1 .1 .1 .1 .0)
+sub-write-configs c = omega (arith, fits (c .before .before .before .before .before .before .before .before .before), c .before .before .write-u32 .kept .0, c .before .before .before .before .before .before .before .copy-credential .kept .1 .1 .1 .1 .1 .1 .0)
 
 part-write-configs-start : tie.Need-part-write-configs-start
-part-write-configs-start c = omega (arith, fits (c .before .before .before .before .before .before .before .before .before), c .before .before .write-u32 .kept .0, c .before .before .before .before .before .before .before .copy-head .kept .1 .1 .1 .1 .1 .1 .0)
+part-write-configs-start c = omega (arith, fits (c .before .before .before .before .before .before .before .before .before), c .before .before .write-u32 .kept .0, c .before .before .before .before .before .before .before .copy-credential .kept .1 .1 .1 .1 .1 .1 .0)
 
 part-write-configs-end : tie.Need-part-write-configs-end
 part-write-configs-end c = search needs
@@ -83,7 +85,7 @@ write-configs-requires : tie.Need-write-configs-requires
 write-configs-requires c κs =
     let f = fits (c .before .before .before .before .before .before .before .before .before .before) in
     let u = c .before .before .before .write-u32 .kept .0 in
-    let h = c .before .before .before .before .before .before .before .before .copy-head .kept .1 .1 .1 .1 .1 .1 .0 in
+    let h = c .before .before .before .before .before .before .before .before .copy-credential .kept .1 .1 .1 .1 .1 .1 .0 in
     search needs
 
 same-length : tie.Need-same-length
@@ -99,11 +101,15 @@ returns-2 c =
     let a = s .args in
     let l = now (a .out) in
     let o = u .write-u32 .last .0 in
+    let id = readMatter (now (a .held)) (a .id) in
+    let issuer = readMatter (now (a .held)) (a .issuer) in
+    let latest = readMatter (now (a .s)) (a .latest) in
+    let head = headBytes id issuer (a .sn) latest in
     let configs = sectionBytes byteBytes (viewConfigs (a .configs)) in
     let p : putMid 119 (length o - 119) o (w .write-configs .last .0) ≡ sets o 119 configs =
-    part-stored 119 o (w .write-configs .last .0) configs (omega (arith, fits e, u .write-u32 .kept .0, h .copy-head .kept .1 .1 .1 .1 .1 .1 .0)) (w .write-configs .ensures) in
+    part-stored 119 o (w .write-configs .last .0) configs (omega (arith, fits e, u .write-u32 .kept .0, h .copy-credential .kept .1 .1 .1 .1 .1 .1 .0)) (w .write-configs .ensures) in
     stored l 0 (length (bytes s)) (bytes s) _ refl (holds e)
-    (p ∙ rw (u .write-u32 .ensures .1, u .before .value .ensures, h .copy-head .ensures) (front-sets l (readMatter (now (a .held)) (a .id)) (readMatter (now (a .held)) (a .issuer)) (a .sn) (readMatter (now (a .s)) (a .latest)) (a .toad .0) (viewConfigs (a .configs)) (omega (arith, fits e))))
+    (p ∙ rw (u .write-u32 .ensures .1, u .before .value .ensures, h .copy-credential .ensures .1, put-sets l 0 115 head (length-head id issuer (a .sn) latest) (omega (arith, fits e))) (front-sets l id issuer (a .sn) latest (a .toad .0) (viewConfigs (a .configs)) (omega (arith, fits e))))
 
 pub copy-front-spec : {M : Type 1} → statement M
 copy-front-spec =
@@ -113,7 +119,7 @@ copy-front-spec =
     add-has-room
     has-room-requires
     returns
-    copy-head-requires
+    copy-credential-requires
     value-requires
     write-u32-requires
     sub-write-configs

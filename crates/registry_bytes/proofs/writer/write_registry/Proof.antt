@@ -9,10 +9,12 @@ use denote.Ref.{now}
 use lib.Dec.{leb}
 use lib.ListN.{length}
 use lib.Seq.{sets}
-use Rattle.laws.proofs.Room.{stored, refused}
+use Rattle.laws.proofs.Room.{stored, refused, put-sets}
 use Rattle.events_tel.specs.Configs.{viewConfigs}
 use Rattle.events.specs.Members.{view}
-use Rattle.registry_bytes.specs.StateBytes.{headBytes, stateBytes}
+use Rattle.registry_head.specs.HeadBytes.{headBytes}
+use Rattle.registry_head.proofs.HeadWrites.{length-head}
+use Rattle.registry_bytes.specs.StateBytes.{stateBytes}
 use Rattle.registry_bytes.proofs.StateWrites.{length-state, state-sets}
 use Rattle.registry_bytes.proofs.writer.write_registry.Statement.{statement}
 use Rattle.registry_bytes.proofs.writer.write_registry.Tie as tie
@@ -58,10 +60,8 @@ add-write-rest c = omega (arith, fits (c .before))
 write-rest-requires : tie.Need-write-rest-requires
 write-rest-requires c κs = omega (arith, fits (c .before))
 
-write-head-requires : tie.Need-write-head-requires
-write-head-requires c κs =
-    let b3 = c .before .before .before in
-    omega (arith, fits (b3 .before .before), b3 .write-rest .kept .0)
+write-credential-requires : tie.Need-write-credential-requires
+write-credential-requires c κs = search needs
 
 same-length : tie.Need-same-length
 same-length c = search needs
@@ -75,7 +75,7 @@ returns-2 c =
     let a = s .args in
     stored (now (a .out)) (a .at) (length (bytes s)) (bytes s) _ refl (holds b8)
     (_∙_ {b = sets (b6 .write-rest .last .0) (a .at) (headBytes (a .a) (a .b) (a .sn) (a .d))}
-    (b2 .write-head .ensures)
+    (b2 .write-credential .ensures .1 ∙ put-sets (b6 .write-rest .last .0) (a .at) 115 (headBytes (a .a) (a .b) (a .sn) (a .d)) (length-head (a .a) (a .b) (a .sn) (a .d)) (omega (arith, fits b8, b6 .write-rest .kept .0)))
     (rw (b6 .write-rest .ensures)
     (state-sets (now (a .out)) (a .at) (a .a) (a .b) (a .sn) (a .d) (a .toad .0) (viewConfigs (a .configs)) (view (a .backers)))))
 
@@ -88,6 +88,6 @@ write-registry-spec =
     returns
     add-write-rest
     write-rest-requires
-    write-head-requires
+    write-credential-requires
     same-length
     returns-2)

@@ -1,0 +1,63 @@
+// The bytes of a credential state, which are also what a registry state begins with.
+use cesr::primitive::Matter;
+use cesr_number::number::has_room;
+use cesr_sn::number::Sn;
+ghost use mathlib.Core.Path.{_≡_};
+ghost use Prim.Native.Nat.{_+_, _≤_};
+ghost use lib.ListN.{length};
+ghost use lib.Seq.{sets};
+ghost use Rattle.laws.specs.Room.{room, put};
+ghost use Rattle.cesr.specs.Primitives.{readMatter};
+ghost use Rattle.registry_head.specs.HeadBytes.{headBytes};
+
+// The fields of a credential state. Stores all 115 bytes or none, and answers which.
+pub fn write_credential(out: &mut [u8], at: usize, a: Matter, b: Matter, sn: Sn, d: Matter) -> bool
+    ensures { λ r. ⌜ (r ≡ room (now (out .entry)) at 115) × (now (out .exit) ≡ put (now (out .entry)) at (headBytes a b sn d)) ⌝ }
+{
+    if !has_room(out.len(), at, 115) {
+        return false;
+    }
+    write_head(out, at, a, b, sn, d);
+    true
+}
+
+// A credential state whose primitives are copied from where they stand: registry and credential in one slice, the digest of the last event in another. It is stored from the start of `out` on. Stores all 115 bytes or none, and answers which.
+pub fn copy_credential(
+    held: &[u8],
+    registry: usize,
+    credential: usize,
+    sn: Sn,
+    s: &[u8],
+    head: usize,
+    out: &mut [u8],
+) -> bool
+    ensures { λ r. ⌜ (r ≡ room (now (out .entry)) 0 115) × (now (out .exit) ≡ put (now (out .entry)) 0 (headBytes (readMatter (now (held .entry)) registry) (readMatter (now (held .entry)) credential) sn (readMatter (now (s .entry)) head))) ⌝ }
+{
+    if !has_room(out.len(), 0, 115) {
+        return false;
+    }
+    copy_head(held, registry, credential, sn, s, head, out);
+    true
+}
+
+// The head of a state, copied from where it stands.
+fn copy_head(held: &[u8], id: usize, issuer: usize, sn: Sn, s: &[u8], latest: usize, out: &mut [u8])
+    requires { ⌜ 115 ≤ length (now out) ⌝ }
+    ensures { λ r. ⌜ now (out .exit) ≡ sets (now (out .entry)) 0 (headBytes (readMatter (now (held .entry)) id) (readMatter (now (held .entry)) issuer) sn (readMatter (now (s .entry)) latest)) ⌝ }
+{
+    Matter::copy(held, id, out, 0);
+    Matter::copy(held, issuer, out, 33);
+    sn.write(out, 66);
+    Matter::copy(s, latest, out, 82);
+}
+
+// Two primitives, a number and a primitive, in 115 bytes.
+fn write_head(out: &mut [u8], at: usize, a: Matter, b: Matter, sn: Sn, d: Matter)
+    requires { ⌜ at + 115 ≤ length (now out) ⌝ }
+    ensures { λ r. ⌜ now (out .exit) ≡ sets (now (out .entry)) at (headBytes a b sn d) ⌝ }
+{
+    a.write(out, at);
+    b.write(out, at + 33);
+    sn.write(out, at + 66);
+    d.write(out, at + 82);
+}
