@@ -1,5 +1,6 @@
 pub mod Round
 pub mod Stands
+pub mod Sticky
 pub mod Codes
 pub mod CodesList
 pub mod CodesSeal

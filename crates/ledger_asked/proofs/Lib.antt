@@ -1,3 +1,2 @@
-pub mod Sticky
 pub mod Places
 pub mod RequestLaws

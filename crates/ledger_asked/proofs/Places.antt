@@ -18,11 +18,11 @@ use Rattle.codec_cursor.specs.Readers.{Read, Reader, starting, placed, need, re
 use Rattle.codec.specs.Events.{vcpOf, vrtOf, issOf, revOf, bisOf, brvOf, sealOf, readEventSeal, readOtherSeal, readSeal, readVcp, readVrt, readIss, readRev, readBis, readBrv, readKind, readEvent}
 use Rattle.events_tel.specs.TelEvents.{Event}
 use Rattle.codec_laws.proofs.Stands.{went, passed}
+use Rattle.codec_laws.proofs.Sticky.{Sticky, sticky-both, sticky-number, sticky-said, sticky-identifier, sticky-counted, sticky-after, sticky-ended, sticky-toad, sticky-configs, sticky-prefixes, sticky-event-seal, sticky-seal}
 use Rattle.registry_state.specs.States.{noSaid}
 use Rattle.registry_laws.specs.Pairs.{pairIn}
 use Rattle.ledger_asked.specs.declared.call.Named.{Named}
 use Rattle.ledger_asked.specs.Names.{about, namedPair, namedEvent, namedAt, pairAt, namedBy, headNamed}
-use Rattle.ledger_asked.proofs.Sticky.{Sticky, sticky-both, sticky-number, sticky-said, sticky-identifier, sticky-counted, sticky-after, sticky-ended, sticky-toad, sticky-configs, sticky-prefixes, sticky-event-seal, sticky-seal}
 
 -- a reader that takes n bytes
 record Fixed {A : Type 0} (p : Reader A) (n : ℕ) : Type 0 where

@@ -18,12 +18,12 @@ use Rattle.events_tel.specs.TelEvents.Event.{vcp, vrt, iss, rev, bis, brv}
 use Rattle.registry_wire.specs.Attempts.{Message, Decoded, readMessage, decodeOf, viewAttempt, viewDecoded}
 use Rattle.registry_wire.specs.Attempts.Decoded.{malformed, decoded}
 use Rattle.registry_wire.specs.declared.attempt.DecodedAttempt.{DecodedAttempt}
+use Rattle.registry_wire.proofs.StickyAttempt.{sticky-sections}
 use Rattle.registry_error.specs.declared.error.RegistryRejection.the-variants.{Malformed}
 use Rattle.registry_laws.specs.Pairs.{Pair, pairIn}
 use Rattle.ledger_step.specs.Steps.{revocationOf, eventRequest, decodedRequest, requestOf}
 use Rattle.ledger_step.specs.Steps.Request.{nothing}
 use Rattle.ledger_asked.specs.Names.{namedOf, namedPair, namedEvent, headNamed, isDecoded, decodes}
-use Rattle.ledger_asked.proofs.Sticky.{sticky-sections}
 use Rattle.ledger_asked.proofs.Places.{event-named}
 
 pub decodes-as : (s : List ℕ) (r : DecodedAttempt) → viewDecoded s r ≡ decodeOf s → r .ok ≡ decodes s

@@ -16,6 +16,7 @@ use Rattle.codec.specs.Layout.{all}
 use Rattle.codec_laws.proofs.CodesList.{all-snoc}
 use Rattle.registry_state.specs.States.{Registry, viewRegistry, readRegistry, wellRegistry}
 use Rattle.registry_state.specs.declared.state.RegistryState.{RegistryState}
+use Rattle.registry_state.proofs.StickyState.{sticky-registry}
 use Rattle.registry_laws.specs.ReadingRules.{soundRegistry}
 use Rattle.ledger_step.specs.Tables.{has, distinct}
 use Rattle.ledger_step.specs.Ledgers.{holds, idOf, keepsLayout, keepsRules, registryRules}
@@ -23,7 +24,6 @@ use Rattle.ledger_step.specs.Steps.{heldNow}
 use Rattle.ledger_step.proofs.Rules.{said-test}
 use Rattle.ledger_image.specs.Images.{wideCount, wideSection, readRegistries}
 use Rattle.ledger_image_check.specs.Checks.{idIn, registriesPass, sectionPasses}
-use Rattle.ledger_image_check.proofs.Sticky.{registry-sticky}
 use Rattle.ledger_image_ids.proofs.OneMore.{distinct-snoc}
 
 -- the rules that registries keep, together
@@ -46,7 +46,7 @@ pass-registries s c zero h = refl
 pass-registries s c (suc n) h =
     let r = times n readRegistry s c in
     let g = readRegistry s (r .next) in
-    let before = pass-registries s c n (registry-sticky .before s (r .next) h) in
+    let before = pass-registries s c n (sticky-registry .before s (r .next) h) in
     rw (before, h) (sym (one-more (r .value) (g .value)))
 
 -- where the loop over the registries stands: behind i of them, with their ids, and whether each passed

@@ -1,2 +1,3 @@
 pub mod StateLoops
 pub mod CodesState
+pub mod StickyState

@@ -1,3 +1,4 @@
 pub mod AttemptLaws
 pub mod AnchorLaws
 pub mod CodesAttempt
+pub mod StickyAttempt

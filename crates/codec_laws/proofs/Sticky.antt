@@ -1,19 +1,21 @@
--- A cursor that has stopped stays so, whatever part of an attempt is read.
---     Sticky           a reader that gets on only from a cursor that has not stopped
---     sticky-sections  what stands behind the event
+-- A cursor that has stopped stays so, whatever is read: a reader that ended well began well.
+--     Sticky   a reader that gets on only from a cursor that has not stopped
+--     sticky-both, sticky-mapped, sticky-after, sticky-ended, sticky-section, sticky-either
+--              the ways in which readers are put together
+--     sticky-byte, sticky-quad, sticky-number, sticky-said, sticky-identifier, sticky-byte-if, sticky-counted
+--              the readers of the cursor
+--     sticky-toad, sticky-configs, sticky-prefixes, sticky-event-seal, sticky-seal
+--              the parts of an event
 use Prim.Native.Nat.{ℕ, zero, suc}
 use mathlib.Core.Path.{_≡_}
 use mathlib.Core.Bool.{Bool, true, false, cond}
 use mathlib.Core.List.{List}
-use lib.Dec.{leb, eqb}
+use lib.Dec.{eqb}
 use Rattle.cesr.specs.declared.primitive.Matter.{Matter}
 use Rattle.codec_cursor.specs.declared.cursor.Cursor.{Cursor}
 use Rattle.codec_cursor.specs.Readers.{Read, Reader, readByte, readQuad, readNumber, readIf, readIdentifier, saidOf, readSaid, prefixOf, readPrefix, readByteIf, counted, mapped, both, after, ended, times, countUpTo, section}
 use Rattle.codec.specs.Events.{isConfig, readConfig, readToad, eventSeal, readEventSeal, readOtherSeal, readSeal, readConfigs, readPrefixes}
 use Rattle.codec_laws.proofs.Stands.{went, passed}
-use Rattle.registry_state.specs.States.{registryOf, readRegistry}
-use Rattle.registry_signatures.specs.SignatureSections.{signatureOf, readSignature}
-use Rattle.registry_wire.specs.Attempts.{sourceOf, readSource, readSeals, anchorOf, readAnchor, readAnchors, readIssuer, readBackerAt, readEvidence}
 
 pub record Sticky {A : Type 0} (p : Reader A) : Type 0 where
   pub before : (s : List ℕ) (c : Cursor) → p s c .next .ok ≡ true → c .ok ≡ true
@@ -22,7 +24,7 @@ pub record Sticky {A : Type 0} (p : Reader A) : Type 0 where
 pub sticky-both : {A B : Type 0} {p : Reader A} {q : Reader B} → Sticky p → Sticky q → Sticky (both p q)
 sticky-both {A} {B} {p} {q} j k = record { before = λ s c h. j .before s c (k .before s (p s c .next) h) }
 
-sticky-mapped : {A B : Type 0} {p : Reader A} (f : A → B) → Sticky p → Sticky (mapped f p)
+pub sticky-mapped : {A B : Type 0} {p : Reader A} (f : A → B) → Sticky p → Sticky (mapped f p)
 sticky-mapped f k = record { before = k .before }
 
 sticky-times : {A : Type 0} {p : Reader A} → Sticky p → (n : ℕ) → Sticky (times n p)
@@ -31,11 +33,11 @@ sticky-times k zero = record { before = λ s c h. h }
 sticky-times {A} {p} k (suc n) = record { before = λ s c h. sticky-times k n .before s c (k .before s (times n p s c .next) h) }
 
 -- the readers of the cursor
-sticky-byte : Sticky readByte
+pub sticky-byte : Sticky readByte
 unfolding readByte
 sticky-byte = record { before = λ s c h. went s c 1 h .ok }
 
-sticky-quad : Sticky readQuad
+pub sticky-quad : Sticky readQuad
 unfolding readQuad
 sticky-quad = record { before = λ s c h. went s c 4 h .ok }
 
@@ -59,7 +61,7 @@ pub sticky-identifier : Sticky readIdentifier
 unfolding readIdentifier
 sticky-identifier = sticky-if _
 
-sticky-byte-if : (test : ℕ → Bool) → Sticky (readByteIf test)
+pub sticky-byte-if : (test : ℕ → Bool) → Sticky (readByteIf test)
 unfolding readByteIf
 sticky-byte-if test = record { before = λ s c h. sticky-byte .before s c (passed _ _ h .ok) }
 
@@ -73,7 +75,7 @@ sticky-after n k = record { before = λ s c h. sticky-counted n s c (k .before s
 pub sticky-ended : {A : Type 0} {p : Reader A} (n : ℕ) → Sticky p → Sticky (ended p n)
 sticky-ended {A} {p} n k = record { before = λ s c h. k .before s c (sticky-counted n s (p s c .next) h) }
 
-sticky-section : {A : Type 0} {p : Reader A} (limit : ℕ) → Sticky p → Sticky (section limit p)
+pub sticky-section : {A : Type 0} {p : Reader A} (limit : ℕ) → Sticky p → Sticky (section limit p)
 unfolding section countUpTo
 sticky-section limit k = record {
   before = λ s c h.
@@ -82,9 +84,9 @@ sticky-section limit k = record {
 }
 
 -- one of two, by a test
-either : {A : Type 0} (c : Cursor) (x y : Read A) (t : Bool) → (x .next .ok ≡ true → c .ok ≡ true) → (y .next .ok ≡ true → c .ok ≡ true) → cond t x y .next .ok ≡ true → c .ok ≡ true
-either c x y true h k e = h e
-either c x y false h k e = k e
+pub sticky-either : {A : Type 0} (c : Cursor) (x y : Read A) (t : Bool) → (x .next .ok ≡ true → c .ok ≡ true) → (y .next .ok ≡ true → c .ok ≡ true) → cond t x y .next .ok ≡ true → c .ok ≡ true
+sticky-either c x y true h k e = h e
+sticky-either c x y false h k e = k e
 
 -- the parts of an event
 pub sticky-toad : Sticky readToad
@@ -107,35 +109,7 @@ pub sticky-seal : Sticky readSeal
 unfolding readSeal readOtherSeal
 sticky-seal = record {
   before = λ s c.
-      either c _ _ (eqb (readByte s c .value) 4)
+      sticky-either c _ _ (eqb (readByte s c .value) 4)
       (λ h. sticky-byte .before s c (sticky-event-seal .before s (readByte s c .next) h))
       (sticky-byte-if _ .before s c);
 }
-
--- the sections behind it
-sticky-anchors : Sticky readAnchors
-unfolding readAnchors readAnchor readSeals
-sticky-anchors =
-    sticky-section 1 (sticky-mapped anchorOf (sticky-both sticky-identifier (sticky-both sticky-number (sticky-both sticky-said (sticky-section 8 sticky-seal)))))
-
-sticky-registry : Sticky readRegistry
-unfolding readRegistry
-sticky-registry =
-    sticky-mapped registryOf (sticky-both sticky-said (sticky-both sticky-identifier (sticky-both sticky-number (sticky-both sticky-said (sticky-both sticky-quad (sticky-both sticky-configs sticky-prefixes))))))
-
-sticky-evidence : Sticky readEvidence
-unfolding readEvidence readIssuer readBackerAt
-sticky-evidence = record {
-  before = λ s c.
-      let behind = sticky-byte .before s c in
-      either c _ _ (eqb (readByte s c .value) 1)
-      (λ h. behind (sticky-both sticky-identifier sticky-anchors .before s (readByte s c .next) h))
-      (either c _ _ (eqb (readByte s c .value) 3) (λ h. behind (sticky-registry .before s (readByte s c .next) h)) (λ h. behind (passed _ _ h .ok)));
-}
-
-pub sticky-sections : Sticky (both (section 1 readSource) (both readAnchors (both (section 64 readSignature) (after 1 readEvidence))))
-unfolding readSource readSignature
-sticky-sections =
-    sticky-both (sticky-section 1 (sticky-mapped sourceOf (sticky-both sticky-number sticky-said)))
-    (sticky-both sticky-anchors
-    (sticky-both (sticky-section 64 (sticky-mapped signatureOf (sticky-both sticky-quad (sticky-byte-if (λ v. leb v 1))))) (sticky-after 1 sticky-evidence)))
