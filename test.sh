@@ -8,8 +8,6 @@ cd "$(dirname "$0")"
 if [ -z "${TMPDIR:-}" ] && [ -w /dev/shm ] && [ "$(df --output=avail /dev/shm | tail -n 1)" -gt 4000000 ]; then
     export TMPDIR=/dev/shm
 fi
-# So many checks start together, and the next ones wait for the longest of them. With four on two processors the others fill that time.
-export RT_JOBS="${RT_JOBS:-4}"
 rt fmt --check
 said=$(mktemp)
 trap 'rm -f "$said"' EXIT
