@@ -1,5 +1,6 @@
 // The order of the ledger's checks around each fold (docs/RULES.md, "Orders").
 use registry_answer::answer::accept_if;
+use registry_answer::answer::accepts;
 use registry_answer::answer::or_else;
 use registry_error::error::Answer;
 use registry_error::error::RegistryRejection;
@@ -16,12 +17,20 @@ pub fn asked_answer(ok: bool, read: bool, refusal: u8) -> Answer
     or_else(sound, or_else(formed, or_else(paired, Answer::Accepted)))
 }
 
+// Each answer is returned where it is known: one that is joined to others is copied every time, and an accepted vcp goes through all of them.
 pub fn inception_answer(held: bool, folded: Answer, registry_count: usize) -> Answer
     ensures { λ r. ⌜ r ≡ inceptionAnswer held folded «registry_count» ⌝ }
 {
-    let absent = accept_if(!held, RegistryRejection::DuplicateInception);
-    let room = accept_if(registry_count < 16, RegistryRejection::NoRoom);
-    or_else(absent, or_else(folded, or_else(room, Answer::Accepted)))
+    if held {
+        return Answer::Rejected(RegistryRejection::DuplicateInception);
+    }
+    if !accepts(folded) {
+        return folded;
+    }
+    if registry_count < 16 {
+        return Answer::Accepted;
+    }
+    Answer::Rejected(RegistryRejection::NoRoom)
 }
 
 pub fn rotation_answer(held: bool, folded: Answer) -> Answer

@@ -1,8 +1,6 @@
 // Whether the bytes are an attempt, with as little decoded as that takes (docs/RULES.md, "Orders").
 use ledger_answers::answers::asked_answer;
 use ledger_asked::asked::decodes;
-use registry_answer::answer::accept_if;
-use registry_answer::answer::or_else;
 use registry_error::error::Answer;
 use registry_error::error::RegistryRejection;
 ghost use mathlib.Core.Path.{_≡_};
@@ -35,8 +33,10 @@ fn reads(s: &[u8], folded: Answer) -> bool
 pub fn behind_reading(s: &[u8], folded: Answer, checked: Answer) -> Answer
     ensures { λ r. ⌜ r ≡ behindReading (readsBy (now (s .entry)) folded) checked ⌝ }
 {
-    let read = accept_if(reads(s, folded), RegistryRejection::Malformed);
-    or_else(read, checked)
+    if reads(s, folded) {
+        return checked;
+    }
+    Answer::Rejected(RegistryRejection::Malformed)
 }
 
 // What is checked before every fold, where none is run. Of a ledger that breaks a reading rule the bytes are not asked.
