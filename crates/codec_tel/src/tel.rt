@@ -9,6 +9,7 @@ use events_seal::seal::Seal;
 use events_tel::tel::Kind;
 use events_tel::tel::TelEvent;
 ghost use mathlib.Core.Path.{_≡_};
+ghost use mathlib.Core.Bool.{cond};
 ghost use Rattle.codec_cursor.specs.Readers.{counted};
 ghost use Rattle.codec_tel_registry.specs.EventReads.{viewEventRead};
 ghost use Rattle.codec.specs.Events.{readIss, readRev, readBis, readBrv, readEvent};
@@ -70,29 +71,21 @@ fn read_rev(c: Cursor, s: &[u8]) -> EventRead
     EventRead { value, next }
 }
 
-fn read_bis(c: Cursor, s: &[u8]) -> EventRead
-    ensures { λ r. ⌜ viewEventRead (now (s .entry)) r ≡ readBis (now (s .entry)) c ⌝ }
+// A bis or a brv. They differ in what the third digest is: the registry's, or the event's before it. Read in one place, the seal is made where the event has it; one that a function of its own hands to two others is copied, which takes longer than reading it.
+fn read_backed(issues: bool, c: Cursor, s: &[u8]) -> EventRead
+    ensures { λ r. ⌜ viewEventRead (now (s .entry)) r ≡ cond issues (readBis (now (s .entry)) c) (readBrv (now (s .entry)) c) ⌝ }
 {
-    let bis = c.count(s, 3);
-    let credential = bis.pass_said(s);
-    let registry = credential.pass_said(s);
-    let own = read_seal(pass_empty(registry.pass_said(s), s).count(s, 1), s);
+    let said = c.count(s, 3);
+    let credential = said.pass_said(s);
+    let third = credential.pass_said(s);
+    let own = read_seal(pass_empty(third.pass_said(s), s).count(s, 1), s);
     let seal = own.value;
     let next = own.next;
-    let value = of_credential(Kind::Bis, bis.at, credential.at, registry.at, 0, seal);
-    EventRead { value, next }
-}
-
-fn read_brv(c: Cursor, s: &[u8]) -> EventRead
-    ensures { λ r. ⌜ viewEventRead (now (s .entry)) r ≡ readBrv (now (s .entry)) c ⌝ }
-{
-    let brv = c.count(s, 3);
-    let credential = brv.pass_said(s);
-    let prior = credential.pass_said(s);
-    let own = read_seal(pass_empty(prior.pass_said(s), s).count(s, 1), s);
-    let seal = own.value;
-    let next = own.next;
-    let value = of_credential(Kind::Brv, brv.at, credential.at, 0, prior.at, seal);
+    if issues {
+        let value = of_credential(Kind::Bis, said.at, credential.at, third.at, 0, seal);
+        return EventRead { value, next };
+    }
+    let value = of_credential(Kind::Brv, said.at, credential.at, 0, third.at, seal);
     EventRead { value, next }
 }
 
@@ -107,7 +100,6 @@ pub fn read_event(c: Cursor, s: &[u8]) -> EventRead
         2 => read_vrt(k.next, s),
         3 => read_iss(k.next, s),
         4 => read_rev(k.next, s),
-        5 => read_bis(k.next, s),
-        _ => read_brv(k.next.expect_that(kind == 6), s),
+        _ => read_backed(kind == 5, k.next.expect_that((kind == 5) | (kind == 6)), s),
     }
 }

@@ -1,8 +1,23 @@
+use Prim.Native.Nat.{ℕ}
+use mathlib.Core.Path.{_≡_, ap, _∙_}
+use mathlib.Core.Bool.{Bool, true, false, cond, _||_}
+use mathlib.Core.List.{List}
+use lib.Dec.{eqb}
+use denote.Ref.{now}
 use borrow.Author.Tests.{ne-eqb}
 use borrow.Author.Needs.{needs}
-use Rattle.codec.specs.Events.{readKind, readEvent}
+use Rattle.codec_cursor.specs.declared.cursor.Cursor.{Cursor}
+use Rattle.codec_cursor.specs.Readers.{need}
+use Rattle.codec.specs.Events.{readBis, readBrv, readKind, readEvent}
 use Rattle.codec_tel.proofs.tel.read_event.Statement.{statement}
 use Rattle.codec_tel.proofs.tel.read_event.Tie as tie
+
+-- a bis keeps its cursor, and of the other kinds only 6 goes on
+backed : (five six : Bool) (s : List ℕ) (c d : Cursor) → d ≡ need c (five || six) →
+    cond five (readBis s d) (readBrv s d) ≡ cond five (readBis s c) (readBrv s (need c six))
+unfolding need
+backed true six s c d e = ap (readBis s) e
+backed false six s c d e = ap (readBrv s) e
 
 byte-requires : tie.Need-byte-requires
 byte-requires c κs = search needs
@@ -19,14 +34,11 @@ read-iss-requires c κs = search needs
 read-rev-requires : tie.Need-read-rev-requires
 read-rev-requires c κs = search needs
 
-read-bis-requires : tie.Need-read-bis-requires
-read-bis-requires c κs = search needs
-
 expect-that-requires : tie.Need-expect-that-requires
 expect-that-requires c κs = search needs
 
-read-brv-requires : tie.Need-read-brv-requires
-read-brv-requires c κs = search needs
+read-backed-requires : tie.Need-read-backed-requires
+read-backed-requires c κs = search needs
 
 returns : tie.Need-returns
 unfolding readEvent readKind
@@ -46,25 +58,19 @@ returns-4 c = rw (← c .before .before .byte .ensures, c .before .match .keys4)
 
 returns-5 : tie.Need-returns-5
 unfolding readEvent readKind
-returns-5 c = rw (← c .before .before .byte .ensures, c .before .match .keys5) (c .read-bis .ensures)
-
-returns-6 : tie.Need-returns-6
-unfolding readEvent readKind
-returns-6 c =
+returns-5 c =
     let b1 = c .before in
     let b2 = b1 .before in
     let n = b2 .before .byte .result .value in
     let r = b2 .match .rest in
     rw (
       ← b2 .before .byte .ensures,
-      ne-eqb n 1 (r .0 .0 .0 .0 .1),
-      ne-eqb n 2 (r .0 .0 .0 .1),
-      ne-eqb n 3 (r .0 .0 .1),
-      ne-eqb n 4 (r .0 .1),
-      ne-eqb n 5 (r .1),
-      ← b1 .expect-that .ensures,
+      ne-eqb n 1 (r .0 .0 .0 .1),
+      ne-eqb n 2 (r .0 .0 .1),
+      ne-eqb n 3 (r .0 .1),
+      ne-eqb n 4 (r .1),
     )
-    (c .read-brv .ensures)
+    (c .read-backed .ensures ∙ backed (eqb n 5) (eqb n 6) (now (b2 .before .before .before .args .s)) (b2 .before .byte .result .next) _ (b1 .expect-that .ensures))
 
 pub read-event-spec : {M : Type 1} → statement M
 read-event-spec =
@@ -75,12 +81,10 @@ read-event-spec =
     read-vrt-requires
     read-iss-requires
     read-rev-requires
-    read-bis-requires
     expect-that-requires
-    read-brv-requires
+    read-backed-requires
     returns
     returns-2
     returns-3
     returns-4
-    returns-5
-    returns-6)
+    returns-5)
