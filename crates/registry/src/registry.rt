@@ -137,22 +137,6 @@ fn refused(g: RegistryState, refusal: RegistryRejection) -> RegistryOutcome
     }
 }
 
-fn ingest_event(g: RegistryState, a: Attempt, s: &[u8]) -> RegistryOutcome
-    requires { ⌜ Anchored (now s) a ⌝ }
-    ensures { λ r. ⌜ Ingested (now (s .entry)) g a r ⌝ }
-{
-    let e = a.event;
-    let kind = e.kind;
-    match kind {
-        Kind::Vcp => refused(g, RegistryRejection::DuplicateInception),
-        Kind::Vrt => rotate(g, a, s),
-        Kind::Iss => refused(g, RegistryRejection::NotManagementRotation),
-        Kind::Rev => refused(g, RegistryRejection::NotManagementRotation),
-        Kind::Bis => refused(g, RegistryRejection::NotManagementRotation),
-        Kind::Brv => refused(g, RegistryRejection::NotManagementRotation),
-    }
-}
-
 // The next event of a registry: a rotation.
 pub fn ingest(g: RegistryState, s: &[u8]) -> RegistryOutcome
     ensures outcome { λ r. ⌜ viewOutcome r ≡ ingestOf g (now (s .entry)) ⌝ }
@@ -160,8 +144,20 @@ pub fn ingest(g: RegistryState, s: &[u8]) -> RegistryOutcome
     ensures kept { λ r. ⌜ (accepts (r .answer) ≡ false → r .state ≡ g) ⌝ }
 {
     let d = Attempt::decode(s);
-    if g.well_formed() & d.ok {
-        return ingest_event(g, d.attempt, s);
+    let fit = g.well_formed() & d.ok;
+    if !fit {
+        return refused(g, RegistryRejection::Malformed);
     }
-    refused(g, RegistryRejection::Malformed)
+    let e = d.attempt.event;
+    let kind = e.kind;
+    match kind {
+        Kind::Vcp => {
+            return refused(g, RegistryRejection::DuplicateInception);
+        }
+        Kind::Vrt => {
+            return rotate(g, d.attempt, s);
+        }
+        _ => {}
+    }
+    refused(g, RegistryRejection::NotManagementRotation)
 }

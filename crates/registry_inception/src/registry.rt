@@ -4,7 +4,6 @@ use cesr::primitive::Said;
 use cesr_sn::number::Sn;
 use codec::section::at_most_16;
 use codec::section::members_in;
-use codec_cursor::cursor::Cursor;
 use events_tel::config::Configs;
 use events_tel::tel::Kind;
 use events_tel::tel::Listed;
@@ -24,13 +23,14 @@ ghost use Prim.Native.Nat.{_≤_};
 ghost use mathlib.Core.Path.{_≡_};
 ghost use mathlib.Core.Bool.{true};
 ghost use Rattle.cesr.specs.Primitives.{readMatter, saidAt};
-ghost use Rattle.events_tel.specs.TelEvents.{viewEvent, membersIn};
+ghost use Rattle.events_tel.specs.TelEvents.{membersIn};
 ghost use Rattle.events_tel.specs.Configs.{viewConfigs};
 ghost use Rattle.registry_state.specs.States.{viewRegistry, wellRegistry};
 ghost use Rattle.registry_wire.specs.Attempts.{viewAttempt};
-ghost use Rattle.registry_answer.specs.Answers.{accepts};
+ghost use Rattle.registry_error.specs.declared.error.RegistryRejection.the-variants.{Malformed};
+ghost use Rattle.registry_answer.specs.Answers.{accepts, acceptIf, orElse};
 ghost use Rattle.registry_authentication.specs.Issuers.{Anchored};
-ghost use Rattle.registry_inception.specs.InceptionFolds.{thresholdFits, vcpAnswer, inceptEvent, inceptAnswer, inceptedAt, inceptionAt, inceptOf, viewOutcome};
+ghost use Rattle.registry_inception.specs.InceptionFolds.{thresholdFits, vcpAnswer, inceptAnswer, inceptedAt, inceptionAt, inceptOf, viewOutcome};
 
 // An answer, and the state behind it: the next one, or after a refusal the one that was handed in. Where none is handed in it is blank.
 pub struct RegistryOutcome {
@@ -97,31 +97,27 @@ fn vcp_answer(a: Attempt, s: &[u8]) -> Answer
     enough_receipts(s, a.signatures, count, toad)
 }
 
-fn incept_event(a: Attempt, s: &[u8]) -> Answer
-    requires { ⌜ Anchored (now s) a ⌝ }
-    ensures { λ r. ⌜ r ≡ inceptEvent (viewEvent (now (s .entry)) (a .event)) (viewAttempt (now (s .entry)) a) ⌝ }
+// An attempt's checks. It is fit where it is well formed.
+fn incept_event(fit: bool, a: Attempt, s: &[u8]) -> Answer
+    requires { ⌜ (fit ≡ true → Anchored (now s) a) ⌝ }
+    ensures { λ r. ⌜ r ≡ orElse (acceptIf fit Malformed) (inceptAnswer (viewAttempt (now (s .entry)) a)) ⌝ }
 {
+    if !fit {
+        return Answer::Rejected(RegistryRejection::Malformed);
+    }
+    let evidence = issuer_kind(a.evidence);
+    if !accepts(evidence) {
+        return evidence;
+    }
     let e = a.event;
     let kind = e.kind;
     match kind {
-        Kind::Vcp => vcp_answer(a, s),
-        Kind::Vrt => Answer::Rejected(RegistryRejection::NotRegistryInception),
-        Kind::Iss => Answer::Rejected(RegistryRejection::NotRegistryInception),
-        Kind::Rev => Answer::Rejected(RegistryRejection::NotRegistryInception),
-        Kind::Bis => Answer::Rejected(RegistryRejection::NotRegistryInception),
-        Kind::Brv => Answer::Rejected(RegistryRejection::NotRegistryInception),
+        Kind::Vcp => {
+            return vcp_answer(a, s);
+        }
+        _ => {}
     }
-}
-
-fn incept_answer(a: Attempt, s: &[u8]) -> Answer
-    requires { ⌜ Anchored (now s) a ⌝ }
-    ensures { λ r. ⌜ r ≡ inceptAnswer (viewAttempt (now (s .entry)) a) ⌝ }
-{
-    let kind = issuer_kind(a.evidence);
-    if !accepts(kind) {
-        return kind;
-    }
-    incept_event(a, s)
+    Answer::Rejected(RegistryRejection::NotRegistryInception)
 }
 
 // The first event of a registry, which stays in its bytes.
@@ -129,32 +125,19 @@ pub fn incept_read(s: &[u8]) -> Inception
     ensures { λ r. ⌜ inceptionAt (now (s .entry)) r ≡ inceptOf (now (s .entry)) ⌝ }
 {
     let d = Attempt::decode(s);
-    if d.ok {
-        let answer = incept_answer(d.attempt, s);
-        let said = d.attempt.event.said;
-        let issuer = d.attempt.event.issuer;
-        let toad = d.attempt.event.toad;
-        let configs = d.attempt.event.configs;
-        let backers = d.attempt.event.backers;
-        return Inception {
-            answer,
-            said,
-            issuer,
-            toad,
-            configs,
-            backers,
-        };
-    }
-    let toad = Toad::from_wire(0);
-    let configs = Configs::empty();
-    let start = Cursor::start();
+    let answer = incept_event(d.ok, d.attempt, s);
+    let said = d.attempt.event.said;
+    let issuer = d.attempt.event.issuer;
+    let toad = d.attempt.event.toad;
+    let configs = d.attempt.event.configs;
+    let backers = d.attempt.event.backers;
     Inception {
-        answer: Answer::Rejected(RegistryRejection::Malformed),
-        said: 0,
-        issuer: 0,
+        answer,
+        said,
+        issuer,
         toad,
         configs,
-        backers: Listed { count: 0, start },
+        backers,
     }
 }
 
