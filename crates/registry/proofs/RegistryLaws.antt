@@ -41,14 +41,14 @@ use Rattle.registry_inception.specs.InceptionFolds.{Outcome, thresholdFits, vie
 use Rattle.registry.specs.RegistryFolds.{vrtBackers, vrtAnswer, ingestEvent, rotated, ingestMessage, ingestDecoded, ingestOf, Ingested}
 use Rattle.registry_verification.specs.Sequence.{nextSn}
 use Rattle.registry_inception.specs.declared.registry.RegistryOutcome.{RegistryOutcome}
-use Rattle.registry_answer.proofs.AnswerLaws.{or-first, or-second, passed}
+use Rattle.registry_answer.proofs.AnswerLaws.{or-first, or-second, passed, first-last}
 use Rattle.registry_inception.proofs.WellLaws.{Lettered, well-by-view}
 use Rattle.registry.proofs.WellLaws.{good-rotated, well-view}
 use Rattle.registry_inception.proofs.InceptionLaws.{good-event}
 
-pub limit-chain : (ok : Bool) (toad : ℕ) (u v now : List BasicPrefix) (l : List Signature) → v ≡ cond ok u now → orElse (acceptIf ok TooManyBackers) (orElse (thresholdFits toad (length v)) (orElse (enoughReceipts toad (length v) l) Accepted)) ≡ orElse (acceptIf ok TooManyBackers) (orElse (thresholdFits toad (length u)) (orElse (enoughReceipts toad (length u) l) Accepted))
-unfolding acceptIf
-limit-chain true toad u v now l e = rw e
+pub limit-chain : (ok : Bool) (toad : ℕ) (u v now : List BasicPrefix) (l : List Signature) → v ≡ cond ok u now → orElse (acceptIf ok TooManyBackers) (orElse (thresholdFits toad (length v)) (enoughReceipts toad (length v) l)) ≡ orElse (acceptIf ok TooManyBackers) (orElse (thresholdFits toad (length u)) (orElse (enoughReceipts toad (length u) l) Accepted))
+unfolding acceptIf firstOf
+limit-chain true toad u v now l e = rw e (ap (orElse (thresholdFits toad (length u))) (sym (first-last (enoughReceipts toad (length u) l))))
 limit-chain false toad u v now l e = refl
 
 pub limit-list : (x y rest : Answer) (ok : Bool) (u v now : List BasicPrefix) → v ≡ cond ok u now → accepts (orElse x (orElse y (orElse (acceptIf ok TooManyBackers) rest))) ≡ true → v ≡ u
