@@ -20,7 +20,7 @@ ghost use mathlib.Core.Path.{_≡_};
 ghost use lib.Dec.{ltb};
 ghost use Rattle.cesr.specs.declared.primitive.Said.{Said};
 ghost use Rattle.registry_laws.specs.Pairs.{Pair};
-ghost use Rattle.ledger_stores.specs.Effects.{ifRead, inceptionNamed, rotationNamed, issueNamed, revocationNamed, kindEffect, effectNamed, Leaves};
+ghost use Rattle.ledger_stores.specs.Effects.{ifRead, inceptionNamed, rotationNamed, issueNamed, revocationNamed, effectNamed, Leaves};
 
 // Whether a place is before the count.
 fn is_below(at: usize, count: usize) -> bool
@@ -162,35 +162,7 @@ fn revoke_next(
     kept(revocation, registry, registry_count, row, row_count)
 }
 
-// By the kind of fold that is asked for.
-fn kind_next(
-    s: &[u8],
-    named: Named,
-    registry_at: usize,
-    registry_count: usize,
-    registry: RegistryState,
-    row_at: usize,
-    row_count: usize,
-    row: CredentialState,
-) -> Next
-    ensures { λ r. ⌜ Leaves (ifRead (now (s .entry)) (kindEffect (now (s .entry)) named «registry_at» «registry_count» registry «row_at» «row_count» row)) registry «registry_count» row «row_count» r ⌝ }
-{
-    let held = is_below(registry_at, registry_count);
-    let listed = is_below(row_at, row_count);
-    let kind = named.kind;
-    if kind == 1 {
-        return incept_next(s, held, registry, registry_count, row, row_count);
-    }
-    if kind == 2 {
-        return rotate_next(s, held, registry, registry_count, row, row_count);
-    }
-    if kind == 3 {
-        return issue_next(s, held, registry, registry_count, listed, row, row_count);
-    }
-    revoke_next(s, held, registry, registry_count, listed, row, row_count)
-}
-
-// What an attempt comes to. The searches for the registry and the row that it names ended at two places, before the counts where they found them, and the states there are handed in.
+// What an attempt comes to, by the kind of fold that is asked for. The searches for the registry and the row that it names ended at two places, before the counts where they found them, and the states there are handed in.
 pub fn next(
     ok: bool,
     s: &[u8],
@@ -205,18 +177,21 @@ pub fn next(
     ensures { λ r. ⌜ Leaves (effectNamed ok (now (s .entry)) named «registry_at» «registry_count» registry «row_at» «row_count» row) registry «registry_count» row «row_count» r ⌝ }
 {
     let refusal = named.refusal;
-    if accepts(asked_answer(ok, true, refusal)) {
-        return kind_next(
-            s,
-            named,
-            registry_at,
-            registry_count,
-            registry,
-            row_at,
-            row_count,
-            row,
-        );
+    if !accepts(asked_answer(ok, true, refusal)) {
+        let asked = asked_without_fold(ok, s, refusal);
+        return kept(asked, registry, registry_count, row, row_count);
     }
-    let asked = asked_without_fold(ok, s, refusal);
-    kept(asked, registry, registry_count, row, row_count)
+    let held = is_below(registry_at, registry_count);
+    let listed = is_below(row_at, row_count);
+    let kind = named.kind;
+    if kind == 1 {
+        return incept_next(s, held, registry, registry_count, row, row_count);
+    }
+    if kind == 2 {
+        return rotate_next(s, held, registry, registry_count, row, row_count);
+    }
+    if kind == 3 {
+        return issue_next(s, held, registry, registry_count, listed, row, row_count);
+    }
+    revoke_next(s, held, registry, registry_count, listed, row, row_count)
 }

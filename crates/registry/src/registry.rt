@@ -2,6 +2,8 @@
 use cesr::primitive::Said;
 use events::member_set::Members;
 use events_tel::tel::Kind;
+use events_tel::tel::Listed;
+use events_toad::toad::Toad;
 use registry_answer::answer::accept_if;
 use registry_answer::answer::accepts;
 use registry_answer::answer::backer_set;
@@ -15,6 +17,7 @@ use registry_inception::registry::threshold_fits;
 use registry_members::state::updated_members;
 use registry_rotation::deltas::check_deltas;
 use registry_rotation_held::held::check_current;
+use registry_signatures::signatures::Counted;
 use registry_state::state::RegistryState;
 use registry_verification::sequence::next_sn;
 use registry_wire::attempt::Attempt;
@@ -41,14 +44,18 @@ struct Rotation {
     backers: Members,
 }
 
-fn vrt_backers(current: Members, a: Attempt, s: &[u8]) -> Rotation
-    ensures answer { λ r. ⌜ r .answer ≡ vrtBackers (view current) (a .event .toad .0) (membersIn (now (s .entry)) (a .event .backers)) (membersIn (now (s .entry)) (a .event .additions)) (signaturesIn (now (s .entry)) (a .signatures)) ⌝ }
-    ensures list { λ r. ⌜ (accepts (r .answer) ≡ true → view (r .backers) ≡ updatedMembers (view current) (membersIn (now (s .entry)) (a .event .backers)) (membersIn (now (s .entry)) (a .event .additions))) ⌝ }
+fn vrt_backers(
+    current: Members,
+    cuts: Listed,
+    additions: Listed,
+    toad: Toad,
+    signatures: Counted,
+    s: &[u8],
+) -> Rotation
+    ensures answer { λ r. ⌜ r .answer ≡ vrtBackers (view current) (toad .0) (membersIn (now (s .entry)) cuts) (membersIn (now (s .entry)) additions) (signaturesIn (now (s .entry)) signatures) ⌝ }
+    ensures list { λ r. ⌜ (accepts (r .answer) ≡ true → view (r .backers) ≡ updatedMembers (view current) (membersIn (now (s .entry)) cuts) (membersIn (now (s .entry)) additions)) ⌝ }
     ensures count { λ r. ⌜ r .backers .count ≤ 16 ⌝ }
 {
-    let cuts = a.event.backers;
-    let additions = a.event.additions;
-    let toad = a.event.toad;
     let deltas = backer_set(check_deltas(s, cuts, additions));
     let members = backer_set(check_current(s, current, cuts, additions));
     let after = updated_members(s, current, cuts, additions);
@@ -56,9 +63,9 @@ fn vrt_backers(current: Members, a: Attempt, s: &[u8]) -> Rotation
     let backers = after.members;
     let count = backers.count;
     let threshold = threshold_fits(toad, count);
-    let receipts = enough_receipts(s, a.signatures, count, toad);
-    let late = or_else(threshold, or_else(receipts, Answer::Accepted));
-    let answer = or_else(deltas, or_else(members, or_else(limit, late)));
+    let receipts = enough_receipts(s, signatures, count, toad);
+    let late = or_else(limit, or_else(threshold, receipts));
+    let answer = or_else(deltas, or_else(members, late));
     Rotation { answer, backers }
 }
 
@@ -90,7 +97,7 @@ fn vrt_answer(g: RegistryState, a: Attempt, s: &[u8], backers: Answer) -> Answer
         registry,
         sn,
     );
-    let late = or_else(behind, or_else(anchor, or_else(backers, Answer::Accepted)));
+    let late = or_else(behind, or_else(anchor, backers));
     or_else(routed, or_else(flavor, or_else(place, late)))
 }
 
@@ -99,7 +106,14 @@ fn rotate(g: RegistryState, a: Attempt, s: &[u8]) -> RegistryOutcome
     requires { ⌜ Anchored (now s) a × (a .event .kind ≡ Vrt) ⌝ }
     ensures { λ r. ⌜ Ingested (now (s .entry)) g a r ⌝ }
 {
-    let rotation = vrt_backers(g.backers, a, s);
+    let rotation = vrt_backers(
+        g.backers,
+        a.event.backers,
+        a.event.additions,
+        a.event.toad,
+        a.signatures,
+        s,
+    );
     let late = rotation.answer;
     let answer = vrt_answer(g, a, s, late);
     let id = g.id;
@@ -137,22 +151,6 @@ fn refused(g: RegistryState, refusal: RegistryRejection) -> RegistryOutcome
     }
 }
 
-fn ingest_event(g: RegistryState, a: Attempt, s: &[u8]) -> RegistryOutcome
-    requires { ⌜ Anchored (now s) a ⌝ }
-    ensures { λ r. ⌜ Ingested (now (s .entry)) g a r ⌝ }
-{
-    let e = a.event;
-    let kind = e.kind;
-    match kind {
-        Kind::Vcp => refused(g, RegistryRejection::DuplicateInception),
-        Kind::Vrt => rotate(g, a, s),
-        Kind::Iss => refused(g, RegistryRejection::NotManagementRotation),
-        Kind::Rev => refused(g, RegistryRejection::NotManagementRotation),
-        Kind::Bis => refused(g, RegistryRejection::NotManagementRotation),
-        Kind::Brv => refused(g, RegistryRejection::NotManagementRotation),
-    }
-}
-
 // The next event of a registry: a rotation.
 pub fn ingest(g: RegistryState, s: &[u8]) -> RegistryOutcome
     ensures outcome { λ r. ⌜ viewOutcome r ≡ ingestOf g (now (s .entry)) ⌝ }
@@ -160,8 +158,20 @@ pub fn ingest(g: RegistryState, s: &[u8]) -> RegistryOutcome
     ensures kept { λ r. ⌜ (accepts (r .answer) ≡ false → r .state ≡ g) ⌝ }
 {
     let d = Attempt::decode(s);
-    if g.well_formed() & d.ok {
-        return ingest_event(g, d.attempt, s);
+    let fit = g.well_formed() & d.ok;
+    if !fit {
+        return refused(g, RegistryRejection::Malformed);
     }
-    refused(g, RegistryRejection::Malformed)
+    let e = d.attempt.event;
+    let kind = e.kind;
+    match kind {
+        Kind::Vcp => {
+            return refused(g, RegistryRejection::DuplicateInception);
+        }
+        Kind::Vrt => {
+            return rotate(g, d.attempt, s);
+        }
+        _ => {}
+    }
+    refused(g, RegistryRejection::NotManagementRotation)
 }

@@ -1,14 +1,16 @@
 -- The fold of a credential's revocation over decoded attempts.
 --     rev-.., brv-..     the checks made one after the other: the first that refuses is the answer
---     held-..            10 of the held state before them
---     ingest-at          the outcome of an answer and of what stands beside it
---     ingest-decoded     the outcome of bytes that were decoded
---     ingest-malformed   the refusal 1
+--     other-kind         9
+--     unfit, held-..     1, and 10 of the held state, before them
+--     ingest-bytes       the outcome of an answer and of what stands beside it
 use Prim.Native.Nat.{ℕ}
 use mathlib.Core.Path.{_≡_, refl, sym, ap, _∙_}
 use mathlib.Core.List.{List, [], _∷_}
 use mathlib.Core.Bool.{Bool, true, false, _&&_}
 use lib.Dec.{eqb}
+use types.Run.{OneOf, miss}
+use denote.Enum.Declared.{tagOf}
+use Rattle.laws.proofs.Tests.{and-left, and-right}
 use Rattle.cesr.specs.Primitives.{readMatter, saidAt, eqSaid}
 use Rattle.cesr.specs.declared.primitive.Said.{Said}
 use Rattle.events_tel.specs.TelEvents.{eventAs, snOne}
@@ -16,6 +18,7 @@ use Rattle.events_seal.specs.declared.seal.Seal.{Seal}
 use Rattle.events_tel.specs.declared.tel.Kind.{Kind}
 use Rattle.events_tel.specs.declared.tel.Kind.the-variants.{Vcp, Vrt, Iss, Rev, Bis, Brv}
 use Rattle.events_tel.specs.declared.tel.TelEvent.{TelEvent}
+use Rattle.events_tel.proofs.tel.Kind.{the-type}
 use Rattle.registry_state.specs.States.{Registry, readRegistry}
 use Rattle.registry_state_credential.specs.declared.state.CredentialState.{CredentialState}
 use Rattle.registry_wire.specs.Attempts.{Message, viewAttempt, viewDecoded, decodeOf}
@@ -29,7 +32,7 @@ use Rattle.registry_backer.specs.Backers.{isBackerless, namesRegistry, resolved
 use Rattle.registry_backer.proofs.AuthorityLaws.{asked-by}
 use Rattle.registry_error.specs.declared.error.Answer.{Answer}
 use Rattle.registry_error.specs.declared.error.Answer.the-variants.{Rejected}
-use Rattle.registry_error.specs.declared.error.RegistryRejection.the-variants.{Malformed, InconsistentRegistry, SimpleEventOnBackerRegistry, BackedEventOnBackerlessRegistry}
+use Rattle.registry_error.specs.declared.error.RegistryRejection.the-variants.{Malformed, NotCredentialTransition, InconsistentRegistry, SimpleEventOnBackerRegistry, BackedEventOnBackerlessRegistry}
 use Rattle.registry_credential_state.specs.CredentialFolds.{ingestAnswer, saidOf, ingestMessage, ingestDecoded, ingestIf}
 use Rattle.registry_credential_state.specs.CredentialParts.{revResolved, brvResolved, eventResolved, ingestResolved, revocationAnswer, revocationAt}
 use Rattle.registry_credential_state.specs.declared.credential_state.Revocation.{Revocation}
@@ -84,13 +87,27 @@ module _ (g : Registry) (said credential : Said) (m : Message) where
       pub brv-backed : accepts x ≡ true → (y : Answer) → y ≡ authority → y ≡ brvResolved g said credential seal m
       brv-backed z y f = f ∙ sym (brv-passed ∙ first-accepted anchor (authority ∷ []) (ap accepts (sym e) ∙ z) ∙ first-last authority)
 
-pub held-elsewhere : (held : Bool) (g : Registry) (m : Message) → held ≡ false → Rejected InconsistentRegistry ≡ ingestResolved held g m
-unfolding ingestResolved acceptIf
-held-elsewhere held g m h = rw h
+-- the kinds that a match on a rev and a brv leaves over
+pub other-kind : (g : Registry) (s : List ℕ) (k : Kind) (e : TelEvent) (m : Message) → OneOf (0 ∷ 1 ∷ 2 ∷ 4 ∷ []) (tagOf the-type k) → Rejected NotCredentialTransition ≡ eventResolved g (eventAs s k e) m
+other-kind g s Vcp e m h = refl
+other-kind g s Vrt e m h = refl
+other-kind g s Iss e m h = refl
+other-kind g s Rev e m h = absurd (miss (0 ∷ 1 ∷ 2 ∷ 4 ∷ []) 3 tt h)
+other-kind g s Bis e m h = refl
+other-kind g s Brv e m h = absurd (miss (0 ∷ 1 ∷ 2 ∷ 4 ∷ []) 5 tt h)
 
-pub held-here : (held : Bool) (g : Registry) (m : Message) → held ≡ true → eventResolved g (m .event) m ≡ ingestResolved held g m
-unfolding ingestResolved acceptIf
-held-here held g m h = rw h
+module _ (fit held : Bool) (g : Registry) (m : Message) where
+  pub unfit : fit ≡ false → Rejected Malformed ≡ ingestResolved fit held g m
+  unfolding ingestResolved acceptIf
+  unfit f = rw f
+
+  pub held-elsewhere : fit ≡ true → held ≡ false → Rejected InconsistentRegistry ≡ ingestResolved fit held g m
+  unfolding ingestResolved acceptIf
+  held-elsewhere f h = rw (f, h)
+
+  pub held-here : fit ≡ true → held ≡ true → eventResolved g (m .event) m ≡ ingestResolved fit held g m
+  unfolding ingestResolved acceptIf
+  held-here f h = rw (f, h)
 
 -- what stands beside an answer to an attempt
 abbrev beside : Answer → Attempt → Revocation
@@ -98,17 +115,24 @@ beside x a =
     record { answer = x; own = eqb (a .evidence) 2; signatures = a .signatures; credential = a .event .credential; prior = a .event .prior; said = a .event .said }
 
 module _ (g : Registry) (w : CredentialState) (s : List ℕ) (held : Bool) (h : held ≡ eqSaid (w .registry) (g .id)) where
-  whole-answer : (a : Attempt) (x : Answer) → x ≡ ingestResolved held g (viewAttempt s a) → revocationAnswer (g .toad) (g .backers) w s (beside x a) ≡ ingestAnswer g w (viewAttempt s a)
+  whole-answer : (a : Attempt) (x : Answer) → x ≡ ingestResolved true held g (viewAttempt s a) → revocationAnswer (g .toad) (g .backers) w s (beside x a) ≡ ingestAnswer g w (viewAttempt s a)
   unfolding revocationAnswer
   whole-answer a x e =
       rw (e, h, ← asked-by s (a .evidence) (readMatter s (a .issuer)) (a .carried) (readRegistry s (a .management) .value)) (sym (ingest-parts g w s a))
 
-  pub ingest-at : (a : Attempt) (x : Answer) → x ≡ ingestResolved held g (viewAttempt s a) → revocationAt g w s (beside x a) ≡ ingestMessage g w (viewAttempt s a)
+  ingest-at : (a : Attempt) (x : Answer) → x ≡ ingestResolved true held g (viewAttempt s a) → revocationAt g w s (beside x a) ≡ ingestMessage g w (viewAttempt s a)
   unfolding ingestMessage
   ingest-at a x e = rw (whole-answer a x e, event-said s (a .event .kind) (a .event))
 
-pub ingest-decoded : (well : Bool) (g : Registry) (w : CredentialState) (s : List ℕ) (d : DecodedAttempt) → viewDecoded s d ≡ decodeOf s → well ≡ true → d .ok ≡ true → ingestIf well g w s ≡ ingestMessage g w (viewAttempt s (d .attempt))
-ingest-decoded well g w s d e h ok = judged-decoded (ingestDecoded g w) _ refl s d e well h ok
+  module _ (well : Bool) (d : DecodedAttempt) (v : viewDecoded s d ≡ decodeOf s) (x : Answer) (e : x ≡ ingestResolved (well && d .ok) held g (viewAttempt s (d .attempt))) where
+    by-fit : (fit : Bool) → (well && d .ok) ≡ fit → revocationAt g w s (beside x (d .attempt)) ≡ ingestIf well g w s
+    unfolding ingestResolved revocationAnswer acceptIf
+    by-fit true z =
+        ingest-at (d .attempt) x (e ∙ ap (λ (t : Bool). ingestResolved t held g (viewAttempt s (d .attempt))) z)
+        ∙ sym (judged-decoded (ingestDecoded g w) _ refl s d v well (and-left well (d .ok) z) (and-right well (d .ok) z))
+    by-fit false z =
+        ap (λ (y : Answer). revocationAt g w s (beside y (d .attempt))) (e ∙ ap (λ (t : Bool). ingestResolved t held g (viewAttempt s (d .attempt))) z)
+        ∙ sym (judged-malformed (ingestDecoded g w) _ refl s d v well z)
 
-pub ingest-malformed : (well : Bool) (g : Registry) (w : CredentialState) (s : List ℕ) (d : DecodedAttempt) → viewDecoded s d ≡ decodeOf s → (well && d .ok) ≡ false → ingestIf well g w s ≡ record { answer = Rejected Malformed; state = w }
-ingest-malformed well g w s d e h = judged-malformed (ingestDecoded g w) _ refl s d e well h
+    pub ingest-bytes : revocationAt g w s (beside x (d .attempt)) ≡ ingestIf well g w s
+    ingest-bytes = by-fit (well && d .ok) refl

@@ -45,14 +45,14 @@ module _ (g : Registry) (w : CredentialState) (said credential prior : Said) (m 
   last-two = ap (orElse own) (first-last last)
 
   rev-parts : (registry : Said) → revAnswer g w said credential registry prior m ≡ orElse (revResolved g said credential registry m) (orElse own last)
-  unfolding revAnswer revResolved
+  unfolding revAnswer revResolved firstOf
   rev-parts registry =
       let due = authenticateIssuer (g .issuer) credential snOne said m in
       in-parts (acceptIf (eqSaid registry (g .id)) InconsistentRegistry ∷ acceptIf (isBackerless g) SimpleEventOnBackerRegistry ∷ []) due due own (last ∷ []) (issuer-own (g .toad) (g .backers) (m .signatures) (g .issuer) credential snOne said m)
       ∙ ap (orElse (revResolved g said credential registry m)) last-two
 
   brv-parts : (seal : Seal) → brvAnswer g w said credential prior seal m ≡ orElse (brvResolved g said credential seal m) (orElse own last)
-  unfolding brvAnswer brvResolved
+  unfolding brvAnswer brvResolved firstOf
   brv-parts seal =
       in-parts (acceptIf (namesRegistry seal (g .id)) InconsistentRegistry ∷ acceptIf (not (isBackerless g)) BackedEventOnBackerlessRegistry ∷ anchored (g .issuer) credential snOne said (m .source) (m .anchor) ∷ []) (authenticateBacker g seal (m .evidence) (m .signatures)) (resolvedBacker g seal (m .evidence) (m .signatures)) own (last ∷ []) (in-two-parts g seal (m .evidence) (m .signatures))
       ∙ ap (orElse (brvResolved g said credential seal m)) last-two
@@ -82,8 +82,8 @@ joined : (x y z : Answer) → orElse x (orElse y z) ≡ orElse (orElse x y) z
 joined Accepted y z = refl
 joined (Rejected r) y z = refl
 
-pub ingest-parts : (g : Registry) (w : CredentialState) (s : List ℕ) (a : Attempt) → ingestAnswer g w (viewAttempt s a) ≡ orElse (ingestResolved (eqSaid (w .registry) (g .id)) g (viewAttempt s a)) (rest g w s (a .event) (viewAttempt s a))
-unfolding ingestAnswer ingestResolved
+pub ingest-parts : (g : Registry) (w : CredentialState) (s : List ℕ) (a : Attempt) → ingestAnswer g w (viewAttempt s a) ≡ orElse (ingestResolved true (eqSaid (w .registry) (g .id)) g (viewAttempt s a)) (rest g w s (a .event) (viewAttempt s a))
+unfolding ingestAnswer ingestResolved acceptIf
 ingest-parts g w s a =
     let here = acceptIf (eqSaid (w .registry) (g .id)) InconsistentRegistry in
     let m = viewAttempt s a in

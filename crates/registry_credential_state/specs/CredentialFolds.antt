@@ -22,35 +22,46 @@ use Rattle.registry_backer.specs.Backers.{isBackerless, namesRegistry, authenti
 use Rattle.registry_transition.specs.Transitions.{transition}
 use Rattle.registry_issue.specs.IssueFolds.{Outcome}
 
--- a rev after 9: 10, 12, 18 to 21, 28, 15 to 17
-unfoldable pub revAnswer : Registry → CredentialState → Said → Said → Said → Said → Message → Answer
-revAnswer g w said credential registry prior m =
+-- a rev after 9: 10, 12, 18 to 21, then 28, 15 to 17, which its place behind the held state comes to
+abbrev pub revChecks : Registry → Said → Said → Said → Message → Answer → Answer
+revChecks g said credential registry m place =
     firstOf
     (acceptIf (eqSaid registry (g .id)) InconsistentRegistry
     ∷ acceptIf (isBackerless g) SimpleEventOnBackerRegistry
     ∷ authenticateIssuer (g .issuer) credential snOne said m
-    ∷ transition w credential prior
+    ∷ place
     ∷ [])
 
--- a brv after 9: 10 (seal), 13, then as bis from 20, then 28, 15 to 17
-unfoldable pub brvAnswer : Registry → CredentialState → Said → Said → Said → Seal → Message → Answer
-brvAnswer g w said credential prior seal m =
+unfoldable pub revAnswer : Registry → CredentialState → Said → Said → Said → Said → Message → Answer
+revAnswer g w said credential registry prior m = revChecks g said credential registry m (transition w credential prior)
+
+-- a brv after 9: 10 (seal), 13, then as bis from 20, with 22 to 27 of its authority, and behind it 28, 15 to 17
+abbrev pub brvChecks : Registry → Said → Said → Seal → Message → Answer → Answer → Answer
+brvChecks g said credential seal m authority behind =
     firstOf
     (acceptIf (namesRegistry seal (g .id)) InconsistentRegistry
     ∷ acceptIf (not (isBackerless g)) BackedEventOnBackerlessRegistry
     ∷ anchored (g .issuer) credential snOne said (m .source) (m .anchor)
-    ∷ authenticateBacker g seal (m .evidence) (m .signatures)
-    ∷ transition w credential prior
+    ∷ authority
+    ∷ behind
     ∷ [])
 
--- 9: another kind
+unfoldable pub brvAnswer : Registry → CredentialState → Said → Said → Said → Seal → Message → Answer
+brvAnswer g w said credential prior seal m =
+    brvChecks g said credential seal m (authenticateBacker g seal (m .evidence) (m .signatures)) (transition w credential prior)
+
+-- 9: another kind than a rev and a brv
+abbrev pub eachTransition : (Said → Said → Said → Said → Answer) → (Said → Said → Said → Seal → Answer) → Event → Answer
+eachTransition onRev onBrv (vcp said issuer toad configs backers) = Rejected NotCredentialTransition
+eachTransition onRev onBrv (vrt said registry prior sn toad cuts additions) = Rejected NotCredentialTransition
+eachTransition onRev onBrv (iss said credential registry) = Rejected NotCredentialTransition
+eachTransition onRev onBrv (rev said credential registry prior) = onRev said credential registry prior
+eachTransition onRev onBrv (bis said credential registry seal) = Rejected NotCredentialTransition
+eachTransition onRev onBrv (brv said credential prior seal) = onBrv said credential prior seal
+
 abbrev pub ingestEvent : Registry → CredentialState → Event → Message → Answer
-ingestEvent g w (vcp said issuer toad configs backers) m = Rejected NotCredentialTransition
-ingestEvent g w (vrt said registry prior sn toad cuts additions) m = Rejected NotCredentialTransition
-ingestEvent g w (iss said credential registry) m = Rejected NotCredentialTransition
-ingestEvent g w (rev said credential registry prior) m = revAnswer g w said credential registry prior m
-ingestEvent g w (bis said credential registry seal) m = Rejected NotCredentialTransition
-ingestEvent g w (brv said credential prior seal) m = brvAnswer g w said credential prior seal m
+ingestEvent g w e m =
+    eachTransition (λ said credential registry prior. revAnswer g w said credential registry prior m) (λ said credential prior seal. brvAnswer g w said credential prior seal m) e
 
 -- 10 of the held state first
 unfoldable pub ingestAnswer : Registry → CredentialState → Message → Answer

@@ -1,57 +1,42 @@
 -- The fold of a revocation in parts, since the code has the held state and the registry's own backers only where a caller has them.
 use Prim.Native.Nat.{ℕ}
-use mathlib.Core.List.{List, [], _∷_}
-use mathlib.Core.Bool.{Bool, not, cond}
-use Rattle.cesr.specs.Primitives.{eqSaid, saidAt}
+use mathlib.Core.List.{List}
+use mathlib.Core.Bool.{Bool, cond}
+use Rattle.cesr.specs.Primitives.{saidAt}
 use Rattle.cesr.specs.declared.primitive.Said.{Said}
 use Rattle.cesr.specs.declared.primitive.BasicPrefix.{BasicPrefix}
 use Rattle.events_tel.specs.TelEvents.{Event, snOne}
-use Rattle.events_tel.specs.TelEvents.Event.{vcp, vrt, iss, rev, bis, brv}
 use Rattle.events_seal.specs.declared.seal.Seal.{Seal}
 use Rattle.registry_state.specs.States.{Registry}
 use Rattle.registry_state_credential.specs.declared.state.CredentialState.{CredentialState}
 use Rattle.registry_signatures.specs.SignatureSections.{signaturesIn}
 use Rattle.registry_wire.specs.Attempts.{Message}
-use Rattle.registry_error.specs.declared.error.RegistryRejection.the-variants.{NotCredentialTransition, InconsistentRegistry, SimpleEventOnBackerRegistry, BackedEventOnBackerlessRegistry}
+use Rattle.registry_error.specs.declared.error.RegistryRejection.the-variants.{Malformed, InconsistentRegistry}
 use Rattle.registry_error.specs.declared.error.Answer.{Answer}
-use Rattle.registry_error.specs.declared.error.Answer.the-variants.{Rejected}
-use Rattle.registry_answer.specs.Answers.{accepts, acceptIf, orElse, firstOf}
-use Rattle.registry_authentication.specs.Issuers.{anchored, authenticateIssuer}
-use Rattle.registry_backer.specs.Backers.{isBackerless, namesRegistry, resolvedBacker, ownWhere}
+use Rattle.registry_error.specs.declared.error.Answer.the-variants.{Accepted}
+use Rattle.registry_answer.specs.Answers.{accepts, acceptIf, orElse}
+use Rattle.registry_backer.specs.Backers.{resolvedBacker, ownWhere}
 use Rattle.registry_transition.specs.Transitions.{transition}
 use Rattle.registry_issue.specs.IssueFolds.{Outcome}
+use Rattle.registry_credential_state.specs.CredentialFolds.{revChecks, brvChecks, eachTransition}
 use Rattle.registry_credential_state.specs.declared.credential_state.Revocation.{Revocation}
 
 -- a rev, but for its place behind the held state
 unfoldable pub revResolved : Registry → Said → Said → Said → Message → Answer
-revResolved g said credential registry m =
-    firstOf
-    (acceptIf (eqSaid registry (g .id)) InconsistentRegistry
-    ∷ acceptIf (isBackerless g) SimpleEventOnBackerRegistry
-    ∷ authenticateIssuer (g .issuer) credential snOne said m
-    ∷ [])
+revResolved g said credential registry m = revChecks g said credential registry m Accepted
 
 -- a brv, but for that and for the registry's own backers
 unfoldable pub brvResolved : Registry → Said → Said → Seal → Message → Answer
-brvResolved g said credential seal m =
-    firstOf
-    (acceptIf (namesRegistry seal (g .id)) InconsistentRegistry
-    ∷ acceptIf (not (isBackerless g)) BackedEventOnBackerlessRegistry
-    ∷ anchored (g .issuer) credential snOne said (m .source) (m .anchor)
-    ∷ resolvedBacker g seal (m .evidence) (m .signatures)
-    ∷ [])
+brvResolved g said credential seal m = brvChecks g said credential seal m (resolvedBacker g seal (m .evidence) (m .signatures)) Accepted
 
 abbrev pub eventResolved : Registry → Event → Message → Answer
-eventResolved g (vcp said issuer toad configs backers) m = Rejected NotCredentialTransition
-eventResolved g (vrt said registry prior sn toad cuts additions) m = Rejected NotCredentialTransition
-eventResolved g (iss said credential registry) m = Rejected NotCredentialTransition
-eventResolved g (rev said credential registry prior) m = revResolved g said credential registry m
-eventResolved g (bis said credential registry seal) m = Rejected NotCredentialTransition
-eventResolved g (brv said credential prior seal) m = brvResolved g said credential seal m
+eventResolved g e m =
+    eachTransition (λ said credential registry prior. revResolved g said credential registry m) (λ said credential prior seal. brvResolved g said credential seal m) e
 
--- by whether the held state is of the registry
-unfoldable pub ingestResolved : Bool → Registry → Message → Answer
-ingestResolved held g m = orElse (acceptIf held InconsistentRegistry) (eventResolved g (m .event) m)
+-- by whether the attempt and both states are well formed, and whether the held state is of the registry
+unfoldable pub ingestResolved : Bool → Bool → Registry → Message → Answer
+ingestResolved fit held g m =
+    orElse (acceptIf fit Malformed) (orElse (acceptIf held InconsistentRegistry) (eventResolved g (m .event) m))
 
 -- what an answer comes to with the registry's toad and backers and with the held state
 unfoldable pub revocationAnswer : ℕ → List BasicPrefix → CredentialState → List ℕ → Revocation → Answer

@@ -2,6 +2,7 @@
 use cesr::primitive::Said;
 use cesr_sn::number::Sn;
 use events::member_set::Members;
+use events_seal::seal::Seal;
 use events_tel::tel::Kind;
 use events_toad::toad::Toad;
 use registry_answer::answer::accepts;
@@ -21,17 +22,17 @@ use registry_state_credential::state::CredentialState;
 use registry_transition::transition::transition;
 use registry_wire::attempt::Attempt;
 ghost use mathlib.Core.Path.{_≡_};
+ghost use mathlib.Core.Bool.{true};
 ghost use mathlib.Core.List.{List};
 ghost use Rattle.cesr.specs.Primitives.{saidAt, eqSaid};
 ghost use Rattle.cesr.specs.declared.primitive.BasicPrefix.{BasicPrefix};
 ghost use Rattle.events.specs.Members.{view};
-ghost use Rattle.events_tel.specs.TelEvents.{viewEvent};
 ghost use Rattle.registry_management.specs.Managements.{viewManagement};
 ghost use Rattle.registry_wire.specs.Attempts.{viewAttempt};
 ghost use Rattle.registry_authentication.specs.Issuers.{Anchored};
 ghost use Rattle.registry_issue.specs.IssueFolds.{viewOutcome};
 ghost use Rattle.registry_credential_state.specs.CredentialFolds.{ingestIf, ingestOf};
-ghost use Rattle.registry_credential_state.specs.CredentialParts.{revResolved, brvResolved, eventResolved, ingestResolved, revocationAnswer, revocationAt};
+ghost use Rattle.registry_credential_state.specs.CredentialParts.{revResolved, brvResolved, ingestResolved, revocationAnswer, revocationAt};
 
 // An answer to a revocation, but for what its callers have: the list of the registry's own backers, and the held state. Beside it stands whether those backers are asked about, and where what is compared and kept stands in the attempt's bytes. The places mean something where the answer accepts.
 pub struct Revocation {
@@ -73,13 +74,11 @@ fn rev_answer(g: Management, a: Attempt, s: &[u8]) -> Answer
 }
 
 // A brv's checks behind its kind.
-fn brv_answer(g: Management, a: Attempt, s: &[u8]) -> Answer
+fn brv_answer(g: Management, seal: Seal, a: Attempt, s: &[u8]) -> Answer
     requires { ⌜ Anchored (now s) a ⌝ }
-    ensures { λ r. ⌜ ((l : List BasicPrefix) → r ≡ brvResolved (viewManagement g l) (saidAt (now (s .entry)) (a .event .said)) (saidAt (now (s .entry)) (a .event .credential)) (a .event .seal) (viewAttempt (now (s .entry)) a)) ⌝ }
+    ensures { λ r. ⌜ ((l : List BasicPrefix) → r ≡ brvResolved (viewManagement g l) (saidAt (now (s .entry)) (a .event .said)) (saidAt (now (s .entry)) (a .event .credential)) seal (viewAttempt (now (s .entry)) a)) ⌝ }
 {
     let one = Sn { hi: 0, lo: 1 };
-    let e = a.event;
-    let seal = e.seal;
     if !names_registry(seal, g.id) {
         return Answer::Rejected(RegistryRejection::InconsistentRegistry);
     }
@@ -103,30 +102,30 @@ fn brv_answer(g: Management, a: Attempt, s: &[u8]) -> Answer
     authenticate_backer(s, a.signatures, g, seal, a.evidence, a.management)
 }
 
-fn ingest_event(g: Management, a: Attempt, s: &[u8]) -> Answer
-    requires { ⌜ Anchored (now s) a ⌝ }
-    ensures { λ r. ⌜ ((l : List BasicPrefix) → r ≡ eventResolved (viewManagement g l) (viewEvent (now (s .entry)) (a .event)) (viewAttempt (now (s .entry)) a)) ⌝ }
+// An attempt's checks. It is fit where it and both states are well formed.
+fn ingest_event(fit: bool, held: bool, g: Management, a: Attempt, s: &[u8]) -> Answer
+    requires { ⌜ (fit ≡ true → Anchored (now s) a) ⌝ }
+    ensures { λ r. ⌜ ((l : List BasicPrefix) → r ≡ ingestResolved fit held (viewManagement g l) (viewAttempt (now (s .entry)) a)) ⌝ }
 {
-    let e = a.event;
-    let kind = e.kind;
-    match kind {
-        Kind::Vcp => Answer::Rejected(RegistryRejection::NotCredentialTransition),
-        Kind::Vrt => Answer::Rejected(RegistryRejection::NotCredentialTransition),
-        Kind::Iss => Answer::Rejected(RegistryRejection::NotCredentialTransition),
-        Kind::Rev => rev_answer(g, a, s),
-        Kind::Bis => Answer::Rejected(RegistryRejection::NotCredentialTransition),
-        Kind::Brv => brv_answer(g, a, s),
+    if !fit {
+        return Answer::Rejected(RegistryRejection::Malformed);
     }
-}
-
-fn ingest_answer(held: bool, g: Management, a: Attempt, s: &[u8]) -> Answer
-    requires { ⌜ Anchored (now s) a ⌝ }
-    ensures { λ r. ⌜ ((l : List BasicPrefix) → r ≡ ingestResolved held (viewManagement g l) (viewAttempt (now (s .entry)) a)) ⌝ }
-{
     if !held {
         return Answer::Rejected(RegistryRejection::InconsistentRegistry);
     }
-    ingest_event(g, a, s)
+    let e = a.event;
+    let kind = e.kind;
+    match kind {
+        Kind::Rev => {
+            return rev_answer(g, a, s);
+        }
+        Kind::Brv => {
+            let seal = e.seal;
+            return brv_answer(g, seal, a, s);
+        }
+        _ => {}
+    }
+    Answer::Rejected(RegistryRejection::NotCredentialTransition)
 }
 
 // The next event of a credential under a registry whose backers are its callers', whether both states are well formed or not. Of the held state it asks only whether it is of the registry. There are states of which that is true and ones of which it is not, so the contract says something of either answer. The event stays in its bytes.
@@ -134,29 +133,19 @@ pub fn ingest_read(well: bool, held: bool, g: Management, s: &[u8]) -> Revocatio
     ensures { λ r. ⌜ ((l : List BasicPrefix) (w : CredentialState) → held ≡ eqSaid (w .registry) (g .id) → revocationAt (viewManagement g l) w (now (s .entry)) r ≡ ingestIf well (viewManagement g l) w (now (s .entry))) ⌝ }
 {
     let d = Attempt::decode(s);
-    if well & d.ok {
-        let answer = ingest_answer(held, g, d.attempt, s);
-        let own = d.attempt.evidence == 2;
-        let signatures = d.attempt.signatures;
-        let credential = d.attempt.event.credential;
-        let prior = d.attempt.event.prior;
-        let said = d.attempt.event.said;
-        return Revocation {
-            answer,
-            own,
-            signatures,
-            credential,
-            prior,
-            said,
-        };
-    }
+    let answer = ingest_event(well & d.ok, held, g, d.attempt, s);
+    let own = d.attempt.evidence == 2;
+    let signatures = d.attempt.signatures;
+    let credential = d.attempt.event.credential;
+    let prior = d.attempt.event.prior;
+    let said = d.attempt.event.said;
     Revocation {
-        answer: Answer::Rejected(RegistryRejection::Malformed),
-        own: false,
-        signatures: Counted { from: 0, count: 0 },
-        credential: 0,
-        prior: 0,
-        said: 0,
+        answer,
+        own,
+        signatures,
+        credential,
+        prior,
+        said,
     }
 }
 

@@ -1,14 +1,18 @@
 -- The inception of a registry over decoded attempts.
---     incept-placed      what the places of a decoded attempt stand for
+--     other-kind         6
+--     unfit, evidence-decides, event-decides   the checks made one after the other: the first that refuses is the answer
+--     incept-bytes       the outcome of an answer and of what stands beside it
 --     incept-within      an accepted inception leaves a state with the letters and bytes of its places
 --     incept-kind        what an accepted attempt was
 --     incept-lettered    an accepted attempt leaves a state with the letters and bytes of its places
 use Prim.Native.Nat.{ℕ}
 use mathlib.Core.Path.{_≡_, refl, ap, sym, _∙_}
-use mathlib.Core.List.{List}
+use mathlib.Core.List.{List, [], _∷_}
 use mathlib.Core.Bool.{Bool, true, false, _&&_, false≢true}
 use lib.Dec.{leb}
 use lib.ListN.{length}
+use types.Run.{OneOf, miss}
+use denote.Enum.Declared.{tagOf}
 use Rattle.laws.specs.Number.{Bytes}
 use Rattle.laws.proofs.Tests.{and-left}
 use Rattle.events_tel.specs.TelEvents.{Event, eventAs, viewEvent}
@@ -16,6 +20,7 @@ use Rattle.events_tel.specs.TelEvents.Event.{vcp, vrt, iss, rev, bis, brv}
 use Rattle.events_tel.specs.declared.tel.Kind.{Kind}
 use Rattle.events_tel.specs.declared.tel.Kind.the-variants.{Vcp, Vrt, Iss, Rev, Bis, Brv}
 use Rattle.events_tel.specs.declared.tel.TelEvent.{TelEvent}
+use Rattle.events_tel.proofs.tel.Kind.{the-type}
 use Rattle.codec.specs.Layout.{all, goodEvent}
 use Rattle.registry_state.specs.States.{Registry, noRegistry}
 use Rattle.registry_source.specs.Sources.{goodSource}
@@ -25,20 +30,44 @@ use Rattle.registry_wire.proofs.CodesAttempt.{decodes}
 use Rattle.registry_signatures.specs.SignatureSections.{goodSignature}
 use Rattle.registry_wire.specs.declared.attempt.Attempt.{Attempt}
 use Rattle.registry_wire.specs.declared.attempt.DecodedAttempt.{DecodedAttempt}
-use Rattle.registry_answer.specs.Answers.{accepts}
+use Rattle.registry_answer.specs.Answers.{accepts, acceptIf, orElse}
 use Rattle.registry_error.specs.declared.error.Answer.{Answer}
 use Rattle.registry_error.specs.declared.error.Answer.the-variants.{Rejected}
-use Rattle.registry_error.specs.declared.error.RegistryRejection.the-variants.{Malformed}
+use Rattle.registry_error.specs.declared.error.RegistryRejection.the-variants.{Malformed, NotRegistryInception}
 use Rattle.registry_authentication.specs.Issuers.{issuerKind}
 use Rattle.registry_inception.specs.InceptionFolds.{inceptEvent, inceptAnswer, incepted, inceptMessage, inceptDecoded, inceptOf, inceptedAt, inceptionAt}
 use Rattle.registry_inception.specs.declared.registry.Inception.{Inception}
-use Rattle.registry_answer.proofs.AnswerLaws.{or-second}
+use Rattle.registry_answer.proofs.AnswerLaws.{or-second, or-passes, or-refuses}
 use Rattle.registry_inception.proofs.WellLaws.{Lettered, good-incepted}
 
 pub good-event : (m : Message) → goodMessage m ≡ true → goodEvent (m .event) ≡ true
 unfolding goodMessage
 good-event m g =
     and-left (goodEvent (m .event)) ((leb (length (m .source)) 1 && all goodSource (m .source)) && (goodAnchors (m .anchor) && ((leb (length (m .signatures)) 64 && all goodSignature (m .signatures)) && goodEvidence (m .evidence)))) g
+
+-- the kinds that a match on a vcp leaves over
+pub other-kind : (s : List ℕ) (k : Kind) (e : TelEvent) (m : Message) → OneOf (1 ∷ 2 ∷ 3 ∷ 4 ∷ 5 ∷ []) (tagOf the-type k) → Rejected NotRegistryInception ≡ inceptEvent (eventAs s k e) m
+other-kind s Vcp e m h = absurd (miss (1 ∷ 2 ∷ 3 ∷ 4 ∷ 5 ∷ []) 0 tt h)
+other-kind s Vrt e m h = refl
+other-kind s Iss e m h = refl
+other-kind s Rev e m h = refl
+other-kind s Bis e m h = refl
+other-kind s Brv e m h = refl
+
+-- t is the code's test whether the kind of evidence x is an issuer's
+module _ (fit : Bool) (m : Message) where
+  pub unfit : fit ≡ false → Rejected Malformed ≡ orElse (acceptIf fit Malformed) (inceptAnswer m)
+  unfolding acceptIf
+  unfit f = rw f
+
+  module _ (f : fit ≡ true) (x : Answer) (e : x ≡ issuerKind (m .evidence)) (t : Bool) (k : t ≡ accepts x) where
+    pub evidence-decides : t ≡ false → x ≡ orElse (acceptIf fit Malformed) (inceptAnswer m)
+    unfolding acceptIf inceptAnswer
+    evidence-decides h = rw f (sym (or-refuses x (issuerKind (m .evidence)) (inceptEvent (m .event) m) t e k h))
+
+    pub event-decides : t ≡ true → inceptEvent (m .event) m ≡ orElse (acceptIf fit Malformed) (inceptAnswer m)
+    unfolding acceptIf inceptAnswer
+    event-decides h = rw f (sym (or-passes x (issuerKind (m .evidence)) (inceptEvent (m .event) m) t e k h))
 
 incept-kind-by : (s : List ℕ) (k : Kind) (e : TelEvent) (m : Message) → accepts (inceptEvent (eventAs s k e) m) ≡ true → k ≡ Vcp
 incept-kind-by s Vcp e m h = refl
@@ -68,11 +97,11 @@ incept-lettered m g h =
     let l = incept-lettered-by (m .event) m (good-event m g) (or-second (issuerKind (m .evidence)) (inceptEvent (m .event) m) h) in
     rw h l
 
-pub incept-decoded : (s : List ℕ) (d : DecodedAttempt) → viewDecoded s d ≡ decodeOf s → d .ok ≡ true → inceptOf s ≡ inceptMessage (viewAttempt s (d .attempt))
+incept-decoded : (s : List ℕ) (d : DecodedAttempt) → viewDecoded s d ≡ decodeOf s → d .ok ≡ true → inceptOf s ≡ inceptMessage (viewAttempt s (d .attempt))
 unfolding inceptOf
 incept-decoded s d e ok = rw (← e, ok)
 
-pub incept-malformed : (s : List ℕ) (d : DecodedAttempt) → viewDecoded s d ≡ decodeOf s → d .ok ≡ false → inceptOf s ≡ record { answer = Rejected Malformed; state = noRegistry }
+incept-malformed : (s : List ℕ) (d : DecodedAttempt) → viewDecoded s d ≡ decodeOf s → d .ok ≡ false → inceptOf s ≡ record { answer = Rejected Malformed; state = noRegistry }
 unfolding inceptOf
 incept-malformed s d e ok = rw (← e, ok)
 
@@ -91,13 +120,18 @@ module _ (s : List ℕ) (a : Attempt) where
   placed-by x true e h = rw (← e, h, accepted-at x (incept-kind s a (sym (ap accepts e) ∙ h)))
   placed-by x false e h = rw (← e, h)
 
-  pub incept-placed : (x : Answer) → x ≡ inceptAnswer (viewAttempt s a) → inceptionAt s (placed x) ≡ inceptMessage (viewAttempt s a)
+  incept-placed : (x : Answer) → x ≡ inceptAnswer (viewAttempt s a) → inceptionAt s (placed x) ≡ inceptMessage (viewAttempt s a)
   incept-placed x e = placed-by x (accepts x) e refl
 
--- what is read of malformed bytes means nothing
-pub incept-unplaced : (s : List ℕ) (r : Inception) → r .answer ≡ Rejected Malformed → inceptionAt s r ≡ record { answer = Rejected Malformed; state = noRegistry }
-unfolding inceptionAt
-incept-unplaced s r e = rw e
+-- and of bytes, decoded or not
+module _ (s : List ℕ) (d : DecodedAttempt) (v : viewDecoded s d ≡ decodeOf s) (x : Answer) where
+  by-fit : (fit : Bool) → d .ok ≡ fit → x ≡ orElse (acceptIf fit Malformed) (inceptAnswer (viewAttempt s (d .attempt))) → inceptionAt s (placed s (d .attempt) x) ≡ inceptOf s
+  unfolding acceptIf inceptionAt
+  by-fit true ok e = incept-placed s (d .attempt) x e ∙ sym (incept-decoded s d v ok)
+  by-fit false ok e = rw e (sym (incept-malformed s d v ok))
+
+  pub incept-bytes : x ≡ orElse (acceptIf (d .ok) Malformed) (inceptAnswer (viewAttempt s (d .attempt))) → inceptionAt s (placed s (d .attempt) x) ≡ inceptOf s
+  incept-bytes e = by-fit (d .ok) refl e
 
 -- an inception with the state that its places stand for, and without one
 module _ (s : List ℕ) (r : Inception) (g : Registry) where

@@ -1,9 +1,9 @@
 -- The checks of a vcp in their order, by the tests of the code.
---     vcpOf                     what a vcp is answered behind its kind
---     clash, members, threshold, anchor, receipts
---                               the checks from each on
+--     clashes, members-decide, threshold-decides
+--                               its list: by whether there are backers where there must be none, then by the rules on them
 --     unnamed, named            by whether the evidence names the issuer
---     clashes, agrees           by whether there are backers where there must be none
+--     list-decides, anchor-decides, receipts-decide
+--                               behind it the first check that refuses, or the last
 use Prim.Native.Nat.{ℕ, min}
 use mathlib.Core.Path.{_≡_, refl, ap, sym, _∙_}
 use mathlib.Core.List.{List, [], _∷_}
@@ -17,48 +17,81 @@ use Rattle.codec.proofs.Loops.{length-times}
 use Rattle.events.specs.Members.{checkMembers}
 use Rattle.events_tel.specs.Configs.{noBackers, viewConfigs}
 use Rattle.events_tel.specs.TelEvents.{snZero, membersIn}
+use Rattle.events_tel.specs.declared.config.Configs.{Configs}
+use Rattle.events_tel.specs.declared.tel.Listed.{Listed}
+use Rattle.events_toad.specs.declared.toad.Toad.{Toad}
 use Rattle.registry_wire.specs.Attempts.{anchorsIn, sourcesIn, evidenceOf, evidenceIn, viewAttempt}
 use Rattle.registry_wire.specs.declared.attempt.Attempt.{Attempt}
 use Rattle.registry_signatures.specs.SignatureSections.{signaturesIn}
 use Rattle.registry_state.specs.States.{readRegistry}
 use Rattle.registry_error.specs.declared.error.RegistryRejection.the-variants.{NoBackersWithBackers, InconsistentIssuer}
 use Rattle.registry_error.specs.declared.error.Answer.{Answer}
-use Rattle.registry_error.specs.declared.error.Answer.the-variants.{Rejected}
-use Rattle.registry_answer.specs.Answers.{acceptIf, backerSet, firstOf}
-use Rattle.registry_answer.proofs.AnswerLaws.{first-passed, first-failed}
+use Rattle.registry_error.specs.declared.error.Answer.the-variants.{Accepted, Rejected}
+use Rattle.registry_answer.specs.Answers.{accepts, backerSet, orElse, firstOf}
+use Rattle.registry_answer.proofs.AnswerLaws.{first-passed, first-failed, first-passes, first-refuses, first-last, or-passes, or-refuses}
 use Rattle.registry_authentication.specs.Issuers.{namesIssuer, anchored}
 use Rattle.registry_authentication.proofs.EvidenceLaws.{no-issuer}
 use Rattle.registry_backer.specs.Backers.{enoughReceipts}
-use Rattle.registry_inception.specs.InceptionFolds.{thresholdFits, vcpAnswer}
+use Rattle.registry_inception.specs.InceptionFolds.{thresholdFits, vcpList, vcpAnswer}
 
 -- a list that stays in the bytes has as many as are counted, and at most 16
-pub listed-size : (s : List ℕ) (a : Attempt) (n : ℕ) → n ≡ min (a .event .backers .count) 16 → n ≡ length (membersIn s (a .event .backers))
+listed-size : (s : List ℕ) (l : Listed) (n : ℕ) → n ≡ min (l .count) 16 → n ≡ length (membersIn s l)
 unfolding membersIn
-listed-size s a n e = e ∙ sym (length-times readPrefix s (a .event .backers .start) (min (a .event .backers .count) 16))
+listed-size s l n e = e ∙ sym (length-times readPrefix s (l .start) (min (l .count) 16))
+
+module _ (s : List ℕ) (configs : Configs) (l : Listed) (toad : Toad) where
+  abbrev pub listOf : Answer
+  listOf = firstOf (vcpList (toad .0) (viewConfigs configs) (membersIn s l) [])
+
+  abbrev threshold : List Answer
+  threshold = thresholdFits (toad .0) (length (membersIn s l)) ∷ []
+
+  abbrev members : List Answer
+  members = backerSet (checkMembers (membersIn s l)) ∷ threshold
+
+  module _ (t : Bool) (n : ℕ) (e : t ≡ noBackers (viewConfigs configs)) (f : n ≡ min (l .count) 16) where
+    clash-is : (noBackers (viewConfigs configs) && not (eqb (length (membersIn s l)) 0)) ≡ (t && not (eqb n 0))
+    clash-is = rw (e, listed-size s l n f)
+
+    pub clashes : (t && not (eqb n 0)) ≡ true → Rejected NoBackersWithBackers ≡ listOf
+    clashes h = sym (first-failed _ NoBackersWithBackers members (ap not (clash-is ∙ h)))
+
+    -- x is what the rules on the members come to, and u the code's test whether it accepts
+    module _ (h : (t && not (eqb n 0)) ≡ false) (x : Answer) (p : x ≡ backerSet (checkMembers (membersIn s l))) (u : Bool) (k : u ≡ accepts x) where
+      agrees : listOf ≡ firstOf members
+      agrees = first-passed _ NoBackersWithBackers members (ap not (clash-is ∙ h))
+
+      pub members-decide : u ≡ false → x ≡ listOf
+      members-decide z = sym (agrees ∙ first-refuses x _ threshold u p k z)
+
+      pub threshold-decides : u ≡ true → (y : Answer) → y ≡ thresholdFits (toad .0) n → y ≡ listOf
+      threshold-decides z y q =
+          q ∙ ap (thresholdFits (toad .0)) (listed-size s l n f) ∙ sym (agrees ∙ first-passes x _ threshold u p k z ∙ first-last (thresholdFits (toad .0) (length (membersIn s l))))
+
+three : (x y z : Answer) (l : List Answer) → firstOf (x ∷ y ∷ z ∷ l) ≡ orElse (firstOf (x ∷ y ∷ z ∷ [])) (firstOf l)
+unfolding firstOf
+three Accepted Accepted Accepted l = refl
+three Accepted Accepted (Rejected r) l = refl
+three Accepted (Rejected r) z l = refl
+three (Rejected r) y z l = refl
 
 module _ (s : List ℕ) (a : Attempt) where
   abbrev backers : ℕ
   backers = length (membersIn s (a .event .backers))
 
-  abbrev pub vcpOf : Answer
+  abbrev vcpOf : Answer
   vcpOf =
       vcpAnswer (saidAt s (a .event .said)) (readMatter s (a .event .issuer)) (a .event .toad .0) (viewConfigs (a .event .configs)) (membersIn s (a .event .backers)) (viewAttempt s a)
 
-  abbrev pub receipts : List Answer
+  abbrev receipts : List Answer
   receipts = enoughReceipts (a .event .toad .0) backers (signaturesIn s (a .signatures)) ∷ []
 
-  abbrev pub anchor : List Answer
-  anchor =
-      anchored (readMatter s (a .event .issuer)) (saidAt s (a .event .said)) snZero (saidAt s (a .event .said)) (sourcesIn s a) (anchorsIn s (a .anchor)) ∷ receipts
+  abbrev sealed : Answer
+  sealed =
+      anchored (readMatter s (a .event .issuer)) (saidAt s (a .event .said)) snZero (saidAt s (a .event .said)) (sourcesIn s a) (anchorsIn s (a .anchor))
 
-  abbrev pub threshold : List Answer
-  threshold = thresholdFits (a .event .toad .0) backers ∷ anchor
-
-  abbrev pub members : List Answer
-  members = backerSet (checkMembers (membersIn s (a .event .backers))) ∷ threshold
-
-  abbrev pub clash : List Answer
-  clash = acceptIf (not (noBackers (viewConfigs (a .event .configs)) && not (eqb backers 0))) NoBackersWithBackers ∷ members
+  abbrev list : List Answer
+  list = vcpList (a .event .toad .0) (viewConfigs (a .event .configs)) (membersIn s (a .event .backers)) (sealed ∷ receipts)
 
   -- whether the evidence is Issuer's and its prefix this one
   names-by : (k : Bool) → eqb (a .evidence) 1 ≡ k → (k && eqMatter (readMatter s (a .issuer)) (readMatter s (a .event .issuer))) ≡ namesIssuer (evidenceIn s a) (readMatter s (a .event .issuer))
@@ -73,18 +106,29 @@ module _ (s : List ℕ) (a : Attempt) where
 
     pub unnamed : (eqb (a .evidence) 1 && t) ≡ false → Rejected InconsistentIssuer ≡ vcpOf
     unfolding vcpAnswer
-    unnamed h = sym (first-failed (namesIssuer (evidenceIn s a) (readMatter s (a .event .issuer))) InconsistentIssuer clash (names ∙ h))
+    unnamed h = sym (first-failed (namesIssuer (evidenceIn s a) (readMatter s (a .event .issuer))) InconsistentIssuer list (names ∙ h))
 
-    pub named : (eqb (a .evidence) 1 && t) ≡ true → vcpOf ≡ firstOf clash
+    pub named : (eqb (a .evidence) 1 && t) ≡ true → vcpOf ≡ firstOf list
     unfolding vcpAnswer
-    named h = first-passed (namesIssuer (evidenceIn s a) (readMatter s (a .event .issuer))) InconsistentIssuer clash (names ∙ h)
+    named h = first-passed (namesIssuer (evidenceIn s a) (readMatter s (a .event .issuer))) InconsistentIssuer list (names ∙ h)
 
-  module _ (t : Bool) (n : ℕ) (e : t ≡ noBackers (viewConfigs (a .event .configs))) (f : n ≡ min (a .event .backers .count) 16) where
-    clash-is : (noBackers (viewConfigs (a .event .configs)) && not (eqb backers 0)) ≡ (t && not (eqb n 0))
-    clash-is = rw (e, listed-size s a n f)
+  -- t, u and v are the code's tests: whether the evidence names the issuer, and whether what the list and the anchoring event come to accepts
+  module _ (passed : vcpOf ≡ firstOf list) (x : Answer) (e : x ≡ listOf s (a .event .configs) (a .event .backers) (a .event .toad)) (u : Bool) (k : u ≡ accepts x) where
+    first-list : firstOf list ≡ orElse (listOf s (a .event .configs) (a .event .backers) (a .event .toad)) (firstOf (sealed ∷ receipts))
+    first-list = three _ _ _ (sealed ∷ receipts)
 
-    pub clashes : (t && not (eqb n 0)) ≡ true → firstOf clash ≡ Rejected NoBackersWithBackers
-    clashes h = first-failed _ NoBackersWithBackers members (ap not (clash-is ∙ h))
+    pub list-decides : u ≡ false → x ≡ vcpOf
+    list-decides z = sym (passed ∙ first-list ∙ or-refuses x _ (firstOf (sealed ∷ receipts)) u e k z)
 
-    pub agrees : (t && not (eqb n 0)) ≡ false → firstOf clash ≡ firstOf members
-    agrees h = first-passed _ NoBackersWithBackers members (ap not (clash-is ∙ h))
+    module _ (z : u ≡ true) (y : Answer) (f : y ≡ sealed) (v : Bool) (q : v ≡ accepts y) where
+      past-list : vcpOf ≡ firstOf (sealed ∷ receipts)
+      past-list = passed ∙ first-list ∙ or-passes x _ (firstOf (sealed ∷ receipts)) u e k z
+
+      pub anchor-decides : v ≡ false → y ≡ vcpOf
+      anchor-decides w = sym (past-list ∙ first-refuses y _ receipts v f q w)
+
+      pub receipts-decide : v ≡ true → (r : Answer) → r ≡ enoughReceipts (a .event .toad .0) (min (a .event .backers .count) 16) (signaturesIn s (a .signatures)) → r ≡ vcpOf
+      receipts-decide w r p =
+          p
+          ∙ ap (λ (n : ℕ). enoughReceipts (a .event .toad .0) n (signaturesIn s (a .signatures))) (listed-size s (a .event .backers) (min (a .event .backers .count) 16) refl)
+          ∙ sym (past-list ∙ first-passes y _ receipts v f q w ∙ first-last (enoughReceipts (a .event .toad .0) backers (signaturesIn s (a .signatures))))

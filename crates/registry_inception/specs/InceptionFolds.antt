@@ -34,17 +34,23 @@ pub record Outcome : Type 0 where
 unfoldable pub thresholdFits : ℕ → ℕ → Answer
 thresholdFits toad backers = acceptIf (exactOk toad backers) BackerThreshold
 
+-- 11, 24, 26 of a vcp: the rules on its list, before the checks behind them
+abbrev pub vcpList : ℕ → List ℕ → List BasicPrefix → List Answer → List Answer
+vcpList toad configs backers rest =
+    acceptIf (not (noBackers configs && not (eqb (length backers) 0))) NoBackersWithBackers
+    ∷ backerSet (checkMembers backers)
+    ∷ thresholdFits toad (length backers)
+    ∷ rest
+
 -- a vcp after 6: 19 (prefix), 11, 24, 26, 20, 21, 27
 unfoldable pub vcpAnswer : Said → Matter → ℕ → List ℕ → List BasicPrefix → Message → Answer
 vcpAnswer said issuer toad configs backers m =
     firstOf
     (acceptIf (namesIssuer (m .evidence) issuer) InconsistentIssuer
-    ∷ acceptIf (not (noBackers configs && not (eqb (length backers) 0))) NoBackersWithBackers
-    ∷ backerSet (checkMembers backers)
-    ∷ thresholdFits toad (length backers)
-    ∷ anchored issuer said snZero said (m .source) (m .anchor)
+    ∷ vcpList toad configs backers
+    (anchored issuer said snZero said (m .source) (m .anchor)
     ∷ enoughReceipts toad (length backers) (m .signatures)
-    ∷ [])
+    ∷ []))
 
 -- 6: another kind
 abbrev pub inceptEvent : Event → Message → Answer

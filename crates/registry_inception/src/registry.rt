@@ -4,7 +4,6 @@ use cesr::primitive::Said;
 use cesr_sn::number::Sn;
 use codec::section::at_most_16;
 use codec::section::members_in;
-use codec_cursor::cursor::Cursor;
 use events_tel::config::Configs;
 use events_tel::tel::Kind;
 use events_tel::tel::Listed;
@@ -23,14 +22,16 @@ use registry_wire::attempt::Attempt;
 ghost use Prim.Native.Nat.{_≤_};
 ghost use mathlib.Core.Path.{_≡_};
 ghost use mathlib.Core.Bool.{true};
+ghost use mathlib.Core.List.{[]};
 ghost use Rattle.cesr.specs.Primitives.{readMatter, saidAt};
-ghost use Rattle.events_tel.specs.TelEvents.{viewEvent, membersIn};
+ghost use Rattle.events_tel.specs.TelEvents.{membersIn};
 ghost use Rattle.events_tel.specs.Configs.{viewConfigs};
 ghost use Rattle.registry_state.specs.States.{viewRegistry, wellRegistry};
 ghost use Rattle.registry_wire.specs.Attempts.{viewAttempt};
-ghost use Rattle.registry_answer.specs.Answers.{accepts};
+ghost use Rattle.registry_error.specs.declared.error.RegistryRejection.the-variants.{Malformed};
+ghost use Rattle.registry_answer.specs.Answers.{accepts, acceptIf, orElse, firstOf};
 ghost use Rattle.registry_authentication.specs.Issuers.{Anchored};
-ghost use Rattle.registry_inception.specs.InceptionFolds.{thresholdFits, vcpAnswer, inceptEvent, inceptAnswer, inceptedAt, inceptionAt, inceptOf, viewOutcome};
+ghost use Rattle.registry_inception.specs.InceptionFolds.{thresholdFits, vcpList, vcpAnswer, inceptAnswer, inceptedAt, inceptionAt, inceptOf, viewOutcome};
 
 // An answer, and the state behind it: the next one, or after a refusal the one that was handed in. Where none is handed in it is blank.
 pub struct RegistryOutcome {
@@ -56,7 +57,24 @@ pub fn threshold_fits(toad: Toad, backers: usize) -> Answer
     accept_if(exact, RegistryRejection::BackerThreshold)
 }
 
-// A vcp's checks behind its kind. The first that refuses is returned at once, since an answer is copied by every check behind it.
+// The rules on a vcp's list of backers. The first that refuses is returned at once, since an answer is copied by every check behind it.
+fn list_answer(configs: Configs, backers: Listed, toad: Toad, s: &[u8]) -> Answer
+    ensures { λ r. ⌜ r ≡ firstOf (vcpList (toad .0) (viewConfigs configs) (membersIn (now (s .entry)) backers) []) ⌝ }
+{
+    let count = at_most_16(backers.count);
+    let clash = configs.no_backers() & !(count == 0);
+    if clash {
+        return Answer::Rejected(RegistryRejection::NoBackersWithBackers);
+    }
+    let members = backer_set(check_members(s, backers));
+    let threshold = threshold_fits(toad, count);
+    if !accepts(members) {
+        return members;
+    }
+    threshold
+}
+
+// A vcp's checks behind its kind.
 fn vcp_answer(a: Attempt, s: &[u8]) -> Answer
     requires { ⌜ Anchored (now s) a ⌝ }
     ensures { λ r. ⌜ r ≡ vcpAnswer (saidAt (now (s .entry)) (a .event .said)) (readMatter (now (s .entry)) (a .event .issuer)) (a .event .toad .0) (viewConfigs (a .event .configs)) (membersIn (now (s .entry)) (a .event .backers)) (viewAttempt (now (s .entry)) a) ⌝ }
@@ -66,19 +84,9 @@ fn vcp_answer(a: Attempt, s: &[u8]) -> Answer
     if !named {
         return Answer::Rejected(RegistryRejection::InconsistentIssuer);
     }
-    let toad = a.event.toad;
-    let count = at_most_16(a.event.backers.count);
-    let clash = a.event.configs.no_backers() & !(count == 0);
-    if clash {
-        return Answer::Rejected(RegistryRejection::NoBackersWithBackers);
-    }
-    let members = backer_set(check_members(s, a.event.backers));
-    let threshold = threshold_fits(toad, count);
-    if !accepts(members) {
-        return members;
-    }
-    if !accepts(threshold) {
-        return threshold;
+    let list = list_answer(a.event.configs, a.event.backers, a.event.toad, s);
+    if !accepts(list) {
+        return list;
     }
     let said = Said::read(s, a.event.said);
     let anchor = message_anchored(
@@ -94,34 +102,30 @@ fn vcp_answer(a: Attempt, s: &[u8]) -> Answer
     if !accepts(anchor) {
         return anchor;
     }
-    enough_receipts(s, a.signatures, count, toad)
+    enough_receipts(s, a.signatures, a.event.backers.count, a.event.toad)
 }
 
-fn incept_event(a: Attempt, s: &[u8]) -> Answer
-    requires { ⌜ Anchored (now s) a ⌝ }
-    ensures { λ r. ⌜ r ≡ inceptEvent (viewEvent (now (s .entry)) (a .event)) (viewAttempt (now (s .entry)) a) ⌝ }
+// An attempt's checks. It is fit where it is well formed.
+fn incept_event(fit: bool, a: Attempt, s: &[u8]) -> Answer
+    requires { ⌜ (fit ≡ true → Anchored (now s) a) ⌝ }
+    ensures { λ r. ⌜ r ≡ orElse (acceptIf fit Malformed) (inceptAnswer (viewAttempt (now (s .entry)) a)) ⌝ }
 {
+    if !fit {
+        return Answer::Rejected(RegistryRejection::Malformed);
+    }
+    let evidence = issuer_kind(a.evidence);
+    if !accepts(evidence) {
+        return evidence;
+    }
     let e = a.event;
     let kind = e.kind;
     match kind {
-        Kind::Vcp => vcp_answer(a, s),
-        Kind::Vrt => Answer::Rejected(RegistryRejection::NotRegistryInception),
-        Kind::Iss => Answer::Rejected(RegistryRejection::NotRegistryInception),
-        Kind::Rev => Answer::Rejected(RegistryRejection::NotRegistryInception),
-        Kind::Bis => Answer::Rejected(RegistryRejection::NotRegistryInception),
-        Kind::Brv => Answer::Rejected(RegistryRejection::NotRegistryInception),
+        Kind::Vcp => {
+            return vcp_answer(a, s);
+        }
+        _ => {}
     }
-}
-
-fn incept_answer(a: Attempt, s: &[u8]) -> Answer
-    requires { ⌜ Anchored (now s) a ⌝ }
-    ensures { λ r. ⌜ r ≡ inceptAnswer (viewAttempt (now (s .entry)) a) ⌝ }
-{
-    let kind = issuer_kind(a.evidence);
-    if !accepts(kind) {
-        return kind;
-    }
-    incept_event(a, s)
+    Answer::Rejected(RegistryRejection::NotRegistryInception)
 }
 
 // The first event of a registry, which stays in its bytes.
@@ -129,32 +133,19 @@ pub fn incept_read(s: &[u8]) -> Inception
     ensures { λ r. ⌜ inceptionAt (now (s .entry)) r ≡ inceptOf (now (s .entry)) ⌝ }
 {
     let d = Attempt::decode(s);
-    if d.ok {
-        let answer = incept_answer(d.attempt, s);
-        let said = d.attempt.event.said;
-        let issuer = d.attempt.event.issuer;
-        let toad = d.attempt.event.toad;
-        let configs = d.attempt.event.configs;
-        let backers = d.attempt.event.backers;
-        return Inception {
-            answer,
-            said,
-            issuer,
-            toad,
-            configs,
-            backers,
-        };
-    }
-    let toad = Toad::from_wire(0);
-    let configs = Configs::empty();
-    let start = Cursor::start();
+    let answer = incept_event(d.ok, d.attempt, s);
+    let said = d.attempt.event.said;
+    let issuer = d.attempt.event.issuer;
+    let toad = d.attempt.event.toad;
+    let configs = d.attempt.event.configs;
+    let backers = d.attempt.event.backers;
     Inception {
-        answer: Answer::Rejected(RegistryRejection::Malformed),
-        said: 0,
-        issuer: 0,
+        answer,
+        said,
+        issuer,
         toad,
         configs,
-        backers: Listed { count: 0, start },
+        backers,
     }
 }
 

@@ -27,7 +27,7 @@ use Rattle.registry_authentication.specs.Issuers.{issuerKind, anchored, authent
 use Rattle.registry_backer.specs.Backers.{isBackerless, authenticateBacker, resolvedBacker, asksOwn, ownWhere}
 use Rattle.registry_backer.proofs.AuthorityLaws.{in-two-parts}
 use Rattle.registry_issue.specs.IssueFolds.{issAnswer, bisAnswer, inceptEvent}
-use Rattle.registry_issue.specs.IssueParts.{bisResolved, inceptResolved}
+use Rattle.registry_issue.specs.IssueParts.{bisResolved, eventResolved}
 
 cut : (d o z : Answer) → orElse (orElse d o) z ≡ orElse (orElse d Accepted) (orElse o z)
 cut Accepted o z = refl
@@ -69,7 +69,7 @@ module _ (g : Registry) (m : Message) where
       in-parts (acceptIf (eqSaid registry (g .id)) InconsistentRegistry ∷ acceptIf (not (isBackerless g)) BackedEventOnBackerlessRegistry ∷ anchored (g .issuer) credential snZero said (m .source) (m .anchor) ∷ []) (authenticateBacker g seal (m .evidence) (m .signatures)) (resolvedBacker g seal (m .evidence) (m .signatures)) own [] (in-two-parts g seal (m .evidence) (m .signatures))
       ∙ ap (orElse (bisResolved g said credential registry seal m)) (first-last own)
 
-  pub incept-parts : (e : Event) → inceptEvent g e m ≡ orElse (inceptResolved g e m) own
+  pub incept-parts : (e : Event) → inceptEvent g e m ≡ orElse (eventResolved g e m) own
   incept-parts (vcp said i toad configs backers) = refl
   incept-parts (vrt said registry prior sn toad cuts additions) = refl
   incept-parts (iss said credential registry) = iss-parts said credential registry

@@ -38,23 +38,31 @@ issAnswer g said credential registry m =
     ∷ [])
 
 -- a bis after 8: 10, 13, 20, 21, then 22 to 27 of its authority
-unfoldable pub bisAnswer : Registry → Said → Said → Said → Seal → Message → Answer
-bisAnswer g said credential registry seal m =
+abbrev pub bisChecks : Registry → Said → Said → Said → Message → Answer → Answer
+bisChecks g said credential registry m authority =
     firstOf
     (acceptIf (eqSaid registry (g .id)) InconsistentRegistry
     ∷ acceptIf (not (isBackerless g)) BackedEventOnBackerlessRegistry
     ∷ anchored (g .issuer) credential snZero said (m .source) (m .anchor)
-    ∷ authenticateBacker g seal (m .evidence) (m .signatures)
+    ∷ authority
     ∷ [])
 
--- 8: another kind
+unfoldable pub bisAnswer : Registry → Said → Said → Said → Seal → Message → Answer
+bisAnswer g said credential registry seal m =
+    bisChecks g said credential registry m (authenticateBacker g seal (m .evidence) (m .signatures))
+
+-- 8: another kind than an iss and a bis
+abbrev pub eachInception : (Said → Said → Said → Answer) → (Said → Said → Said → Seal → Answer) → Event → Answer
+eachInception onIss onBis (vcp said issuer toad configs backers) = Rejected NotCredentialInception
+eachInception onIss onBis (vrt said registry prior sn toad cuts additions) = Rejected NotCredentialInception
+eachInception onIss onBis (iss said credential registry) = onIss said credential registry
+eachInception onIss onBis (rev said credential registry prior) = Rejected NotCredentialInception
+eachInception onIss onBis (bis said credential registry seal) = onBis said credential registry seal
+eachInception onIss onBis (brv said credential prior seal) = Rejected NotCredentialInception
+
 abbrev pub inceptEvent : Registry → Event → Message → Answer
-inceptEvent g (vcp said issuer toad configs backers) m = Rejected NotCredentialInception
-inceptEvent g (vrt said registry prior sn toad cuts additions) m = Rejected NotCredentialInception
-inceptEvent g (iss said credential registry) m = issAnswer g said credential registry m
-inceptEvent g (rev said credential registry prior) m = Rejected NotCredentialInception
-inceptEvent g (bis said credential registry seal) m = bisAnswer g said credential registry seal m
-inceptEvent g (brv said credential prior seal) m = Rejected NotCredentialInception
+inceptEvent g e m =
+    eachInception (λ said credential registry. issAnswer g said credential registry m) (λ said credential registry seal. bisAnswer g said credential registry seal m) e
 
 -- the state that an issue under a registry leaves
 abbrev pub issued : Said → Event → CredentialState

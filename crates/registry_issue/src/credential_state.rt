@@ -1,6 +1,7 @@
 // The fold of a credential's first event, its issue (docs/RULES.md, "Orders", "Next states").
 use cesr::primitive::Said;
 use cesr_sn::number::Sn;
+use events_seal::seal::Seal;
 use events_tel::tel::Kind;
 use registry_answer::answer::accepts;
 use registry_authentication::issuer::authenticate_issuer;
@@ -16,9 +17,9 @@ use registry_state::state::RegistryState;
 use registry_state_credential::state::CredentialState;
 use registry_wire::attempt::Attempt;
 ghost use mathlib.Core.Path.{_≡_};
+ghost use mathlib.Core.Bool.{true};
 ghost use mathlib.Core.List.{List};
 ghost use Rattle.cesr.specs.Primitives.{saidAt};
-ghost use Rattle.events_tel.specs.TelEvents.{viewEvent};
 ghost use Rattle.cesr.specs.declared.primitive.BasicPrefix.{BasicPrefix};
 ghost use Rattle.registry_management.specs.Managements.{viewManagement};
 ghost use Rattle.registry_wire.specs.Attempts.{viewAttempt};
@@ -74,9 +75,9 @@ fn iss_answer(g: Management, a: Attempt, s: &[u8]) -> Answer
 }
 
 // A bis's checks behind its kind, but for the registry's own backers.
-fn bis_answer(g: Management, a: Attempt, s: &[u8]) -> Answer
+fn bis_answer(g: Management, seal: Seal, a: Attempt, s: &[u8]) -> Answer
     requires { ⌜ Anchored (now s) a ⌝ }
-    ensures { λ r. ⌜ ((l : List BasicPrefix) → r ≡ bisResolved (viewManagement g l) (saidAt (now (s .entry)) (a .event .said)) (saidAt (now (s .entry)) (a .event .credential)) (saidAt (now (s .entry)) (a .event .registry)) (a .event .seal) (viewAttempt (now (s .entry)) a)) ⌝ }
+    ensures { λ r. ⌜ ((l : List BasicPrefix) → r ≡ bisResolved (viewManagement g l) (saidAt (now (s .entry)) (a .event .said)) (saidAt (now (s .entry)) (a .event .credential)) (saidAt (now (s .entry)) (a .event .registry)) seal (viewAttempt (now (s .entry)) a)) ⌝ }
 {
     let zero = Sn { hi: 0, lo: 0 };
     let id = g.id.0;
@@ -100,25 +101,30 @@ fn bis_answer(g: Management, a: Attempt, s: &[u8]) -> Answer
     if !accepts(anchor) {
         return anchor;
     }
-    let e = a.event;
-    let seal = e.seal;
     authenticate_backer(s, a.signatures, g, seal, a.evidence, a.management)
 }
 
-fn incept_event(g: Management, a: Attempt, s: &[u8]) -> Answer
-    requires { ⌜ Anchored (now s) a ⌝ }
-    ensures { λ r. ⌜ ((l : List BasicPrefix) → r ≡ inceptResolved (viewManagement g l) (viewEvent (now (s .entry)) (a .event)) (viewAttempt (now (s .entry)) a)) ⌝ }
+// An attempt's checks. It is fit where it and the registry's state are well formed.
+fn incept_event(fit: bool, g: Management, a: Attempt, s: &[u8]) -> Answer
+    requires { ⌜ (fit ≡ true → Anchored (now s) a) ⌝ }
+    ensures { λ r. ⌜ ((l : List BasicPrefix) → r ≡ inceptResolved fit (viewManagement g l) (viewAttempt (now (s .entry)) a)) ⌝ }
 {
+    if !fit {
+        return Answer::Rejected(RegistryRejection::Malformed);
+    }
     let e = a.event;
     let kind = e.kind;
     match kind {
-        Kind::Vcp => Answer::Rejected(RegistryRejection::NotCredentialInception),
-        Kind::Vrt => Answer::Rejected(RegistryRejection::NotCredentialInception),
-        Kind::Iss => iss_answer(g, a, s),
-        Kind::Rev => Answer::Rejected(RegistryRejection::NotCredentialInception),
-        Kind::Bis => bis_answer(g, a, s),
-        Kind::Brv => Answer::Rejected(RegistryRejection::NotCredentialInception),
+        Kind::Iss => {
+            return iss_answer(g, a, s);
+        }
+        Kind::Bis => {
+            let seal = e.seal;
+            return bis_answer(g, seal, a, s);
+        }
+        _ => {}
     }
+    Answer::Rejected(RegistryRejection::NotCredentialInception)
 }
 
 // A refusal: the state stays.
@@ -136,29 +142,19 @@ pub fn incept_read(well: bool, g: Management, s: &[u8]) -> Issue
     ensures { λ r. ⌜ ((l : List BasicPrefix) → issueAt (viewManagement g l) (now (s .entry)) r ≡ inceptIf well (viewManagement g l) (now (s .entry))) ⌝ }
 {
     let d = Attempt::decode(s);
-    if well & d.ok {
-        let answer = incept_event(g, d.attempt, s);
-        let own = d.attempt.evidence == 2;
-        let signatures = d.attempt.signatures;
-        let said = d.attempt.event.said;
-        let credential = d.attempt.event.credential;
-        let registry = d.attempt.event.registry;
-        return Issue {
-            answer,
-            own,
-            signatures,
-            said,
-            credential,
-            registry,
-        };
-    }
+    let answer = incept_event(well & d.ok, g, d.attempt, s);
+    let own = d.attempt.evidence == 2;
+    let signatures = d.attempt.signatures;
+    let said = d.attempt.event.said;
+    let credential = d.attempt.event.credential;
+    let registry = d.attempt.event.registry;
     Issue {
-        answer: Answer::Rejected(RegistryRejection::Malformed),
-        own: false,
-        signatures: Counted { from: 0, count: 0 },
-        said: 0,
-        credential: 0,
-        registry: 0,
+        answer,
+        own,
+        signatures,
+        said,
+        credential,
+        registry,
     }
 }
 
@@ -168,10 +164,13 @@ pub fn incept(g: RegistryState, s: &[u8]) -> CredentialOutcome
 {
     let well = g.well_formed();
     let r = incept_read(well, management_of(g), s);
+    let none = CredentialState::none();
     let answer = r.answer;
     if !accepts(answer) {
-        let state = CredentialState::none();
-        return CredentialOutcome { answer, state };
+        return CredentialOutcome {
+            answer,
+            state: none,
+        };
     }
     let answer = own_of(r.own, s, r.signatures, g.backers, g.toad);
     if accepts(answer) {
@@ -186,6 +185,8 @@ pub fn incept(g: RegistryState, s: &[u8]) -> CredentialOutcome
         };
         return CredentialOutcome { answer, state };
     }
-    let state = CredentialState::none();
-    CredentialOutcome { answer, state }
+    CredentialOutcome {
+        answer,
+        state: none,
+    }
 }

@@ -5,10 +5,8 @@
 --     membersOf, current, limit, threshold, receipts
 --                                what its lists are answered, and the checks from each on
 --     count-after                how many members there are then
---     rotate-placed, rotate-unplaced
---                                what the places of an attempt stand for
---     told-decoded, told-malformed
---                                what a decoder told
+--     unfit, fits                1 before the rest
+--     rotate-bytes               what the places of an attempt stand for
 use Prim.Native.Nat.{ℕ, _+_, min}
 use mathlib.Core.Path.{_≡_, refl, ap, sym, _∙_}
 use mathlib.Core.List.{List, [], _∷_}
@@ -22,15 +20,18 @@ use Rattle.events_tel.specs.TelEvents.{membersIn, viewEvent, eventAs}
 use Rattle.events_tel.specs.declared.tel.Kind.{Kind}
 use Rattle.events_tel.specs.declared.tel.Kind.the-variants.{Vcp, Vrt, Iss, Rev, Bis, Brv}
 use Rattle.events_tel.specs.declared.tel.TelEvent.{TelEvent}
+use Rattle.events_tel.specs.declared.tel.Listed.{Listed}
+use Rattle.events_toad.specs.declared.toad.Toad.{Toad}
 use Rattle.registry_state.specs.States.{Registry}
 use Rattle.registry_wire.specs.Attempts.{Message, viewAttempt, viewDecoded, decodeOf}
 use Rattle.registry_wire.specs.declared.attempt.Attempt.{Attempt}
 use Rattle.registry_wire.specs.declared.attempt.DecodedAttempt.{DecodedAttempt}
 use Rattle.registry_signatures.specs.SignatureSections.{signaturesIn}
+use Rattle.registry_signatures.specs.declared.signatures.Counted.{Counted}
 use Rattle.registry_error.specs.declared.error.RegistryRejection.the-variants.{Malformed, InconsistentRegistry, RotationOnBackerlessRegistry, PriorDigestMismatch, TooManyBackers}
 use Rattle.registry_error.specs.declared.error.Answer.{Answer}
 use Rattle.registry_error.specs.declared.error.Answer.the-variants.{Rejected}
-use Rattle.registry_answer.specs.Answers.{accepts, acceptIf, backerSet, firstOf}
+use Rattle.registry_answer.specs.Answers.{accepts, acceptIf, backerSet, orElse, firstOf}
 use Rattle.registry_answer.proofs.AnswerLaws.{first-passed, first-failed}
 use Rattle.registry_verification.specs.Sequence.{nextSn}
 use Rattle.registry_members.specs.Updated.{survivors, updatedMembers}
@@ -43,35 +44,35 @@ use Rattle.registry_rotation_read.specs.Rotations.{rotatedAt, rotationAt
 use Rattle.registry_rotation_read.specs.declared.rotation.RotationRead.{RotationRead}
 
 -- the lists of a vrt, and the members after it
-module _ (now : List BasicPrefix) (s : List ℕ) (a : Attempt) where
+module _ (now : List BasicPrefix) (s : List ℕ) (cuts additions : Listed) (toad : Toad) (signatures : Counted) where
   abbrev pub after : List BasicPrefix
-  after = updatedMembers now (membersIn s (a .event .backers)) (membersIn s (a .event .additions))
+  after = updatedMembers now (membersIn s cuts) (membersIn s additions)
 
   abbrev pub membersOf : Answer
-  membersOf = vrtBackers now (a .event .toad .0) (membersIn s (a .event .backers)) (membersIn s (a .event .additions)) (signaturesIn s (a .signatures))
+  membersOf = vrtBackers now (toad .0) (membersIn s cuts) (membersIn s additions) (signaturesIn s signatures)
 
   abbrev pub receipts : List Answer
-  receipts = enoughReceipts (a .event .toad .0) (length after) (signaturesIn s (a .signatures)) ∷ []
+  receipts = enoughReceipts (toad .0) (length after) (signaturesIn s signatures) ∷ []
 
   abbrev pub threshold : List Answer
-  threshold = thresholdFits (a .event .toad .0) (length after) ∷ receipts
+  threshold = thresholdFits (toad .0) (length after) ∷ receipts
 
   abbrev pub limit : List Answer
   limit = acceptIf (leb (length after) 16) TooManyBackers ∷ threshold
 
   abbrev pub current : List Answer
-  current = backerSet (checkCurrent now (membersIn s (a .event .backers)) (membersIn s (a .event .additions))) ∷ limit
+  current = backerSet (checkCurrent now (membersIn s cuts) (membersIn s additions)) ∷ limit
 
-  pub members-first : membersOf ≡ firstOf (backerSet (checkDeltas (membersIn s (a .event .backers)) (membersIn s (a .event .additions))) ∷ current)
+  pub members-first : membersOf ≡ firstOf (backerSet (checkDeltas (membersIn s cuts) (membersIn s additions)) ∷ current)
   unfolding vrtBackers
   members-first = refl
 
-  pub count-after : (n k : ℕ) → n ≡ length (survivors (membersIn s (a .event .backers)) now) → k ≡ min (a .event .additions .count) 16 → n + k ≡ length after
+  pub count-after : (n k : ℕ) → n ≡ length (survivors (membersIn s cuts) now) → k ≡ min (additions .count) 16 → n + k ≡ length after
   unfolding updatedMembers
   count-after n k e f =
       sym
-      (length-append (survivors (membersIn s (a .event .backers)) now) (membersIn s (a .event .additions))
-      ∙ rw (e, few-added s (a .event .additions) k f .0))
+      (length-append (survivors (membersIn s cuts) now) (membersIn s additions)
+      ∙ rw (e, few-added s additions k f .0))
 
 -- the checks before them
 module _ (g : Registry) (s : List ℕ) (a : Attempt) where
@@ -80,7 +81,7 @@ module _ (g : Registry) (s : List ℕ) (a : Attempt) where
       vrtAnswer g (saidAt s (a .event .said)) (saidAt s (a .event .registry)) (saidAt s (a .event .prior)) (a .event .sn) (a .event .toad .0) (membersIn s (a .event .backers)) (membersIn s (a .event .additions)) (viewAttempt s a)
 
   abbrev pub backers : List Answer
-  backers = membersOf (g .backers) s a ∷ []
+  backers = membersOf (g .backers) s (a .event .backers) (a .event .additions) (a .event .toad) (a .signatures) ∷ []
 
   abbrev pub anchor : List Answer
   anchor = authenticateIssuer (g .issuer) (saidAt s (a .event .registry)) (a .event .sn) (saidAt s (a .event .said)) (viewAttempt s a) ∷ backers
@@ -128,18 +129,25 @@ module _ (g : Registry) (s : List ℕ) (a : Attempt) where
   placed-by x true e h = rw (← e, h, accepted-at x (rotated-kind g s (a .event .kind) (a .event) (viewAttempt s a) (sym (ap accepts e) ∙ h)))
   placed-by x false e h = rw (← e, h)
 
-  pub rotate-placed : (x : Answer) → x ≡ ingestEvent g (viewEvent s (a .event)) (viewAttempt s a) → rotationAt g s (placed x) ≡ ingestMessage g (viewAttempt s a)
+  rotate-placed : (x : Answer) → x ≡ ingestEvent g (viewEvent s (a .event)) (viewAttempt s a) → rotationAt g s (placed x) ≡ ingestMessage g (viewAttempt s a)
   rotate-placed x e = placed-by x (accepts x) e refl
 
--- what is read of malformed bytes means nothing
-pub rotate-unplaced : (g : Registry) (s : List ℕ) (r : RotationRead) → r .answer ≡ Rejected Malformed → rotationAt g s r ≡ record { answer = Rejected Malformed; state = g }
-unfolding rotationAt
-rotate-unplaced g s r e = rw e
+-- 1 before the rest
+module _ (fit : Bool) (x : Answer) where
+  pub unfit : fit ≡ false → Rejected Malformed ≡ orElse (acceptIf fit Malformed) x
+  unfolding acceptIf
+  unfit f = rw f
 
--- what a decoder told
-module _ (g : Registry) (s : List ℕ) (d : DecodedAttempt) (e : viewDecoded s d ≡ decodeOf s) where
-  pub told-decoded : d .ok ≡ true → ingestDecoded g (decodeOf s) ≡ ingestMessage g (viewAttempt s (d .attempt))
-  told-decoded ok = rw (← e, ok)
+  pub fits : fit ≡ true → x ≡ orElse (acceptIf fit Malformed) x
+  unfolding acceptIf
+  fits f = rw f
 
-  pub told-malformed : d .ok ≡ false → ingestDecoded g (decodeOf s) ≡ record { answer = Rejected Malformed; state = g }
-  told-malformed ok = rw (← e, ok)
+-- what the places of bytes stand for, decoded or not
+module _ (g : Registry) (s : List ℕ) (d : DecodedAttempt) (v : viewDecoded s d ≡ decodeOf s) (x : Answer) where
+  by-fit : (fit : Bool) → d .ok ≡ fit → x ≡ orElse (acceptIf fit Malformed) (ingestEvent g (viewEvent s (d .attempt .event)) (viewAttempt s (d .attempt))) → rotationAt g s (placed g s (d .attempt) x) ≡ ingestDecoded g (decodeOf s)
+  unfolding acceptIf rotationAt
+  by-fit true ok e = rw (← v, ok) (rotate-placed g s (d .attempt) x e)
+  by-fit false ok e = rw (e, ← v, ok)
+
+  pub rotate-bytes : x ≡ orElse (acceptIf (d .ok) Malformed) (ingestEvent g (viewEvent s (d .attempt .event)) (viewAttempt s (d .attempt))) → rotationAt g s (placed g s (d .attempt) x) ≡ ingestDecoded g (decodeOf s)
+  rotate-bytes e = by-fit (d .ok) refl e

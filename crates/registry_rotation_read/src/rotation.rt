@@ -2,7 +2,6 @@
 use cesr::primitive::Said;
 use cesr_sn::number::Sn;
 use codec::section::at_most_16;
-use codec_cursor::cursor::Cursor;
 use events_tel::tel::Kind;
 use events_tel::tel::Listed;
 use events_toad::toad::Toad;
@@ -17,14 +16,18 @@ use registry_inception::registry::threshold_fits;
 use registry_management::management::Management;
 use registry_rotation::deltas::check_current_in;
 use registry_rotation::deltas::check_deltas;
+use registry_signatures::signatures::Counted;
 use registry_verification::sequence::next_sn;
 use registry_wire::attempt::Attempt;
 ghost use mathlib.Core.Path.{_≡_};
+ghost use mathlib.Core.Bool.{true};
 ghost use Rattle.cesr.specs.Primitives.{saidAt};
 ghost use Rattle.events_tel.specs.TelEvents.{membersIn, viewEvent};
 ghost use Rattle.registry_wire.specs.Attempts.{viewAttempt, decodeOf};
 ghost use Rattle.registry_signatures.specs.SignatureSections.{signaturesIn};
 ghost use Rattle.registry_management.specs.Managements.{viewManagement};
+ghost use Rattle.registry_error.specs.declared.error.RegistryRejection.the-variants.{Malformed};
+ghost use Rattle.registry_answer.specs.Answers.{acceptIf, orElse};
 ghost use Rattle.registry_authentication.specs.Issuers.{Anchored};
 ghost use Rattle.registry.specs.RegistryFolds.{vrtBackers, vrtAnswer, ingestEvent, ingestDecoded};
 ghost use Rattle.registry_rotation_read.specs.Rotations.{rotationAt};
@@ -40,12 +43,17 @@ pub struct RotationRead {
 }
 
 // The last five checks of a vrt: its lists, and the members after it.
-fn members_answer(held: &[u8], current: Listed, a: Attempt, s: &[u8]) -> Answer
-    ensures { λ r. ⌜ r ≡ vrtBackers (membersIn (now (held .entry)) current) (a .event .toad .0) (membersIn (now (s .entry)) (a .event .backers)) (membersIn (now (s .entry)) (a .event .additions)) (signaturesIn (now (s .entry)) (a .signatures)) ⌝ }
+fn members_answer(
+    held: &[u8],
+    current: Listed,
+    cuts: Listed,
+    additions: Listed,
+    toad: Toad,
+    signatures: Counted,
+    s: &[u8],
+) -> Answer
+    ensures { λ r. ⌜ r ≡ vrtBackers (membersIn (now (held .entry)) current) (toad .0) (membersIn (now (s .entry)) cuts) (membersIn (now (s .entry)) additions) (signaturesIn (now (s .entry)) signatures) ⌝ }
 {
-    let cuts = a.event.backers;
-    let additions = a.event.additions;
-    let toad = a.event.toad;
     let deltas = backer_set(check_deltas(s, cuts, additions));
     if !accepts(deltas) {
         return deltas;
@@ -62,7 +70,7 @@ fn members_answer(held: &[u8], current: Listed, a: Attempt, s: &[u8]) -> Answer
     if !accepts(threshold) {
         return threshold;
     }
-    enough_receipts(s, a.signatures, count, toad)
+    enough_receipts(s, signatures, count, toad)
 }
 
 // A vrt's checks behind its kind.
@@ -100,23 +108,44 @@ fn rotation_answer(g: Management, current: Listed, held: &[u8], a: Attempt, s: &
     if !accepts(anchor) {
         return anchor;
     }
-    members_answer(held, current, a, s)
+    members_answer(
+        held,
+        current,
+        a.event.backers,
+        a.event.additions,
+        a.event.toad,
+        a.signatures,
+        s,
+    )
 }
 
-fn ingest_answer(g: Management, current: Listed, held: &[u8], a: Attempt, s: &[u8]) -> Answer
-    requires { ⌜ Anchored (now s) a ⌝ }
-    ensures { λ r. ⌜ r ≡ ingestEvent (viewManagement g (membersIn (now (held .entry)) current)) (viewEvent (now (s .entry)) (a .event)) (viewAttempt (now (s .entry)) a) ⌝ }
+// An attempt's checks. It is fit where it is well formed.
+fn ingest_answer(
+    fit: bool,
+    g: Management,
+    current: Listed,
+    held: &[u8],
+    a: Attempt,
+    s: &[u8],
+) -> Answer
+    requires { ⌜ (fit ≡ true → Anchored (now s) a) ⌝ }
+    ensures { λ r. ⌜ r ≡ orElse (acceptIf fit Malformed) (ingestEvent (viewManagement g (membersIn (now (held .entry)) current)) (viewEvent (now (s .entry)) (a .event)) (viewAttempt (now (s .entry)) a)) ⌝ }
 {
+    if !fit {
+        return Answer::Rejected(RegistryRejection::Malformed);
+    }
     let e = a.event;
     let kind = e.kind;
     match kind {
-        Kind::Vcp => Answer::Rejected(RegistryRejection::DuplicateInception),
-        Kind::Vrt => rotation_answer(g, current, held, a, s),
-        Kind::Iss => Answer::Rejected(RegistryRejection::NotManagementRotation),
-        Kind::Rev => Answer::Rejected(RegistryRejection::NotManagementRotation),
-        Kind::Bis => Answer::Rejected(RegistryRejection::NotManagementRotation),
-        Kind::Brv => Answer::Rejected(RegistryRejection::NotManagementRotation),
+        Kind::Vcp => {
+            return Answer::Rejected(RegistryRejection::DuplicateInception);
+        }
+        Kind::Vrt => {
+            return rotation_answer(g, current, held, a, s);
+        }
+        _ => {}
     }
+    Answer::Rejected(RegistryRejection::NotManagementRotation)
 }
 
 // The next event of a registry whose current backers are a list in the held bytes.
@@ -124,31 +153,18 @@ pub fn ingest_read(g: Management, current: Listed, held: &[u8], s: &[u8]) -> Rot
     ensures { λ r. ⌜ rotationAt (viewManagement g (membersIn (now (held .entry)) current)) (now (s .entry)) r ≡ ingestDecoded (viewManagement g (membersIn (now (held .entry)) current)) (decodeOf (now (s .entry))) ⌝ }
 {
     let d = Attempt::decode(s);
-    if d.ok {
-        let answer = ingest_answer(g, current, held, d.attempt, s);
-        let sn = d.attempt.event.sn;
-        let latest = d.attempt.event.said;
-        let toad = d.attempt.event.toad;
-        let cuts = d.attempt.event.backers;
-        let additions = d.attempt.event.additions;
-        return RotationRead {
-            answer,
-            sn,
-            latest,
-            toad,
-            cuts,
-            additions,
-        };
-    }
-    let toad = Toad::from_wire(0);
-    let start = Cursor::start();
-    let none = Listed { count: 0, start };
+    let answer = ingest_answer(d.ok, g, current, held, d.attempt, s);
+    let sn = d.attempt.event.sn;
+    let latest = d.attempt.event.said;
+    let toad = d.attempt.event.toad;
+    let cuts = d.attempt.event.backers;
+    let additions = d.attempt.event.additions;
     RotationRead {
-        answer: Answer::Rejected(RegistryRejection::Malformed),
-        sn: Sn { hi: 0, lo: 0 },
-        latest: 0,
+        answer,
+        sn,
+        latest,
         toad,
-        cuts: none,
-        additions: none,
+        cuts,
+        additions,
     }
 }

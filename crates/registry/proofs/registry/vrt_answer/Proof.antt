@@ -3,7 +3,11 @@ use denote.Ref.{now}
 use native.Mathlib.Omega.{arith}
 use Rattle.cesr.specs.Primitives.{saidAt}
 use Rattle.registry_authentication.proofs.AnchorUse.{issuer-in}
-use Rattle.registry.specs.RegistryFolds.{vrtAnswer}
+use Rattle.events.specs.Members.{view}
+use Rattle.events_tel.specs.TelEvents.{membersIn}
+use Rattle.registry_signatures.specs.SignatureSections.{signaturesIn}
+use Rattle.registry_answer.proofs.AnswerLaws.{first-last}
+use Rattle.registry.specs.RegistryFolds.{vrtBackers, vrtAnswer}
 use Rattle.registry_answer.specs.Answers.{firstOf}
 use borrow.Author.Needs.{needs}
 use Rattle.registry.proofs.registry.vrt_answer.Statement.{statement}
@@ -54,14 +58,11 @@ or-else-requires-4 c κs = search needs
 or-else-requires-5 : tie.Need-or-else-requires-5
 or-else-requires-5 c κs = search needs
 
-or-else-requires-6 : tie.Need-or-else-requires-6
-or-else-requires-6 c κs = search needs
-
 returns : tie.Need-returns
 unfolding vrtAnswer firstOf sourcesIn
 returns c =
-    let b3 = c .before .before .before in
-    let b6 = b3 .before .before .before in
+    let b2 = c .before .before in
+    let b6 = b2 .before .before .before in
     let b9 = b6 .before .before .before in
     let b12 = b9 .before .before .before in
     let b15 = b12 .before .before .before in
@@ -70,12 +71,11 @@ returns c =
     let s = now (q .s) in
     let y = q .a in
     rw (
-      c .or-else6 .ensures,
-      c .before .or-else5 .ensures,
-      c .before .before .or-else4 .ensures,
-      b3 .or-else3 .ensures,
-      b3 .before .or-else2 .ensures,
-      b3 .before .before .or-else .ensures,
+      c .or-else5 .ensures,
+      c .before .or-else4 .ensures,
+      b2 .or-else3 .ensures,
+      b2 .before .or-else2 .ensures,
+      b2 .before .before .or-else .ensures,
       b6 .authenticate-issuer .ensures (y .management),
       b15 .read .ensures,
       issuer-in s y (q .g .issuer) (saidAt s (y .event .registry)) (y .event .sn) (saidAt s (y .event .said)) (λ i. omega (arith, b15 .before .before .shared-slice-known .given i)) (start .pre .0),
@@ -89,6 +89,7 @@ returns c =
       b12 .before .same .ensures,
       b15 .read .ensures,
       start .pre .1,
+      first-last (vrtBackers (view (q .g .backers)) (y .event .toad .0) (membersIn s (y .event .backers)) (membersIn s (y .event .additions)) (signaturesIn s (y .signatures))),
     )
 
 pub vrt-answer-spec : {M : Type 1} → statement M
@@ -110,5 +111,4 @@ vrt-answer-spec =
     or-else-requires-3
     or-else-requires-4
     or-else-requires-5
-    or-else-requires-6
     returns)

@@ -3,7 +3,6 @@ use native.Mathlib.Omega.{arith}
 use lib.ListN.{length}
 use Rattle.events.specs.Members.{view, checkDeltas, checkCurrent}
 use Rattle.registry_answer.specs.Answers.{acceptIf, backerSet, orElse, firstOf}
-use Rattle.registry_error.specs.declared.error.Answer.the-variants.{Accepted}
 use Rattle.registry_error.specs.declared.error.RegistryRejection.the-variants.{TooManyBackers}
 use Rattle.registry_backer.specs.Backers.{enoughReceipts}
 use Rattle.registry_inception.specs.InceptionFolds.{thresholdFits}
@@ -60,40 +59,35 @@ or-else-requires-3 c κs = search needs
 or-else-requires-4 : tie.Need-or-else-requires-4
 or-else-requires-4 c κs = search needs
 
-or-else-requires-5 : tie.Need-or-else-requires-5
-or-else-requires-5 c κs = search needs
-
 returns : tie.Need-returns
 unfolding vrtBackers firstOf
 returns c =
-    let b3 = c .before .before .before in
-    let b6 = b3 .before .before .before in
+    let b2 = c .before .before in
+    let b6 = b2 .before .before .before in
     let b9 = b6 .before .before .before in
     let b12 = b9 .before .before .before in
-    let z = b12 .before .before .before .before .before .before .args in
-    let e = z .a .event in
-    let toad = e .toad .0 in
-    let cuts = membersIn (now (z .s)) (e .backers) in
-    let additions = membersIn (now (z .s)) (e .additions) in
+    let z = b12 .before .before .before .args in
+    let toad = z .toad .0 in
+    let cuts = membersIn (now (z .s)) (z .cuts) in
+    let additions = membersIn (now (z .s)) (z .additions) in
     let u = updatedMembers (view (z .current)) cuts additions in
     let after = b9 .updated-members in
     let v = view (after .result .members) in
     let size = view-size (after .result .members) (full b9) in
     let count : after .result .members .count ≡ length v = omega (arith, size, after .ensures .1 .1) in
     let w = after .ensures .1 .0 in
-    let l = signaturesIn (now (z .s)) (z .a .signatures) in
+    let l = signaturesIn (now (z .s)) (z .signatures) in
     let threshold : b6 .threshold-fits .result ≡ thresholdFits toad (length v) = b6 .threshold-fits .ensures ∙ ap (thresholdFits toad) count in
-    let receipts : b3 .before .before .enough-receipts .result ≡ enoughReceipts toad (length v) l = b3 .before .before .enough-receipts .ensures ∙ ap (λ (n : ℕ). enoughReceipts toad n l) (sym size) in
+    let receipts : b2 .before .before .enough-receipts .result ≡ enoughReceipts toad (length v) l = b2 .before .before .enough-receipts .ensures ∙ ap (λ (n : ℕ). enoughReceipts toad n l) (sym size) in
     let deltas = backerSet (checkDeltas cuts additions) in
     let members = backerSet (checkCurrent (view (z .current)) cuts additions) in
-    let rest = orElse (thresholdFits toad (length v)) (orElse (enoughReceipts toad (length v) l) Accepted) in
-    let x : c .or-else5 .result ≡ orElse deltas (orElse members (orElse (acceptIf (after .result .ok) TooManyBackers) rest)) =
+    let rest = orElse (thresholdFits toad (length v)) (enoughReceipts toad (length v) l) in
+    let x : c .or-else4 .result ≡ orElse deltas (orElse members (orElse (acceptIf (after .result .ok) TooManyBackers) rest)) =
     rw (
-      c .or-else5 .ensures,
-      c .before .or-else4 .ensures,
-      c .before .before .or-else3 .ensures,
-      b3 .or-else2 .ensures,
-      b3 .before .or-else .ensures,
+      c .or-else4 .ensures,
+      c .before .or-else3 .ensures,
+      b2 .or-else2 .ensures,
+      b2 .before .or-else .ensures,
       receipts,
       threshold,
       b6 .before .before .accept-if .ensures,
@@ -126,5 +120,4 @@ vrt-backers-spec =
     or-else-requires-2
     or-else-requires-3
     or-else-requires-4
-    or-else-requires-5
     returns)

@@ -26,7 +26,7 @@ returns c l =
     let credential = saidAt s (e .credential) in
     let registry = saidAt s (e .registry) in
     let m = viewAttempt s (q .a) in
-    bis-routed g said credential registry m (e .seal) (sym (c .before .same-at .ensures) ∙ not-true _ (c .if1 .taken))
+    bis-routed g said credential registry m (q .seal) (sym (c .before .same-at .ensures) ∙ not-true _ (c .if1 .taken))
 
 no-backers-requires : tie.Need-no-backers-requires
 no-backers-requires c κs = search needs
@@ -43,7 +43,7 @@ returns-2 c l =
     let credential = saidAt s (e .credential) in
     let registry = saidAt s (e .registry) in
     let m = viewAttempt s (q .a) in
-    bis-flavor g said credential registry m (e .seal) (sym (b2 .before .same-at .ensures) ∙ not-false _ (b2 .if1 .left)) (sym (c .before .no-backers .ensures) ∙ c .if2 .taken)
+    bis-flavor g said credential registry m (q .seal) (sym (b2 .before .same-at .ensures) ∙ not-false _ (b2 .if1 .left)) (sym (c .before .no-backers .ensures) ∙ c .if2 .taken)
 
 read-requires : tie.Need-read-requires
 read-requires c κs = search needs
@@ -71,7 +71,7 @@ returns-3 c l =
     let registry = saidAt s (e .registry) in
     let m = viewAttempt s (q .a) in
     let in-bytes = message-in s (q .a) (q .g .issuer) credential snZero said (λ i. omega (arith, b9 .shared-slice-known .given i)) (start .pre) in
-    bis-anchor g said credential registry m (e .seal) (sym (b6 .before .same-at .ensures) ∙ not-false _ (b6 .if1 .left)) (sym (b4 .before .no-backers .ensures) ∙ b4 .if2 .left) _
+    bis-anchor g said credential registry m (q .seal) (sym (b6 .before .same-at .ensures) ∙ not-false _ (b6 .if1 .left)) (sym (b4 .before .no-backers .ensures) ∙ b4 .if2 .left) _
     (rw (b2 .message-anchored .ensures, b2 .before .read .ensures) in-bytes)
     (sym (c .before .accepts .ensures) ∙ not-true _ (c .if3 .taken))
 
@@ -81,7 +81,7 @@ authenticate-backer-requires c κs = search needs
 returns-4 : tie.Need-returns-4
 unfolding sourcesIn
 returns-4 c l =
-    let b2 = c .before .before in
+    let b2 = c .before in
     let b4 = b2 .before .before in
     let b6 = b4 .before .before in
     let b8 = b6 .before .before in
@@ -96,7 +96,7 @@ returns-4 c l =
     let registry = saidAt s (e .registry) in
     let m = viewAttempt s (q .a) in
     let in-bytes = message-in s (q .a) (q .g .issuer) credential snZero said (λ i. omega (arith, b11 .shared-slice-known .given i)) (start .pre) in
-    bis-backed g said credential registry m (e .seal) (sym (b8 .before .same-at .ensures) ∙ not-false _ (b8 .if1 .left)) (sym (b6 .before .no-backers .ensures) ∙ b6 .if2 .left) (b4 .message-anchored .result) _
+    bis-backed g said credential registry m (q .seal) (sym (b8 .before .same-at .ensures) ∙ not-false _ (b8 .if1 .left)) (sym (b6 .before .no-backers .ensures) ∙ b6 .if2 .left) (b4 .message-anchored .result) _
     (rw (b4 .message-anchored .ensures, b4 .before .read .ensures) in-bytes)
     (sym (b2 .before .accepts .ensures) ∙ not-false _ (b2 .if3 .left))
     (c .authenticate-backer .ensures (readMatter s (q .a .issuer)) (q .a .carried) l)

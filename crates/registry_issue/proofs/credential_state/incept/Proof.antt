@@ -40,11 +40,12 @@ folded c =
 
 returns : tie.Need-returns
 returns c =
-    let b2 = c .before .before in
+    let b1 = c .before in
+    let b2 = b1 .before in
     let read = b2 .before in
     let z = read .before .before .before .before .args in
-    rw (c .none .ensures)
-    (sym (answer-decides (viewRegistry (z .g)) (now (z .s)) (read .incept-read .result) _ (b2 .accepts .ensures) (not-true _ (c .before .if1 .taken))) ∙ folded read)
+    rw (b2 .none .ensures)
+    (sym (answer-decides (viewRegistry (z .g)) (now (z .s)) (read .incept-read .result) _ (b1 .accepts .ensures) (not-true _ (c .if1 .taken))) ∙ folded read)
 
 own-of-requires : tie.Need-own-of-requires
 own-of-requires c κs = search needs
@@ -53,10 +54,10 @@ accepts-requires-2 : tie.Need-accepts-requires-2
 accepts-requires-2 c κs = search needs
 
 -- and what is left of it where its answer accepts
-owned : (c : tie.After-own-of) → let r = c .before .before .before .incept-read .result in let z = c .before .before .before .before .before .before .before .args in record { answer = c .own-of .result; state = cond (accepts (c .own-of .result)) (record { registry = saidAt (now (z .s)) (r .registry); credential = saidAt (now (z .s)) (r .credential); sn = snZero; head = saidAt (now (z .s)) (r .said) }) noCredential } ≡ inceptOf (z .g) (now (z .s))
+owned : (c : tie.After-own-of) → let r = c .before .before .before .before .incept-read .result in let z = c .before .before .before .before .before .before .before .before .args in record { answer = c .own-of .result; state = cond (accepts (c .own-of .result)) (record { registry = saidAt (now (z .s)) (r .registry); credential = saidAt (now (z .s)) (r .credential); sn = snZero; head = saidAt (now (z .s)) (r .said) }) noCredential } ≡ inceptOf (z .g) (now (z .s))
 owned c =
     let b2 = c .before .before in
-    let read = b2 .before in
+    let read = b2 .before .before in
     let z = read .before .before .before .before .args in
     sym (own-decides (viewRegistry (z .g)) (now (z .s)) (read .incept-read .result) _ (b2 .accepts .ensures) (not-false _ (c .before .if1 .left)) (c .own-of .result) (c .own-of .ensures)) ∙ folded read
 
@@ -75,14 +76,12 @@ returns-2 c =
     let h : accepts (b4 .before .own-of .result) ≡ true = sym (b4 .accepts2 .ensures) ∙ c .before .before .before .if2 .taken in
     rw (c .read3 .ensures, c .before .read2 .ensures, c .before .before .read .ensures) (rw h at (owned (b4 .before)))
 
-none-requires-2 : tie.Need-none-requires-2
-none-requires-2 c κs = search needs
-
 returns-3 : tie.Need-returns-3
 returns-3 c =
-    let b2 = c .before .before in
-    let h : accepts (b2 .before .own-of .result) ≡ false = sym (b2 .accepts2 .ensures) ∙ c .before .if2 .left in
-    rw (c .none2 .ensures) (rw h at (owned (b2 .before)))
+    let b1 = c .before in
+    let own = b1 .before in
+    let h : accepts (own .own-of .result) ≡ false = sym (b1 .accepts2 .ensures) ∙ c .if2 .left in
+    rw (own .before .before .before .none .ensures) (rw h at (owned own))
 
 pub incept-spec : {M : Type 1} → statement M
 incept-spec =
@@ -91,8 +90,8 @@ incept-spec =
     well-formed-requires
     management-of-requires
     incept-read-requires
-    accepts-requires
     none-requires
+    accepts-requires
     returns
     own-of-requires
     accepts-requires-2
@@ -100,5 +99,4 @@ incept-spec =
     read-requires-2
     read-requires-3
     returns-2
-    none-requires-2
     returns-3)
