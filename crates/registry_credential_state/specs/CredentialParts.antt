@@ -17,7 +17,8 @@ use Rattle.registry_error.specs.declared.error.Answer.{Answer}
 use Rattle.registry_error.specs.declared.error.Answer.the-variants.{Rejected}
 use Rattle.registry_answer.specs.Answers.{accepts, acceptIf, orElse, firstOf}
 use Rattle.registry_authentication.specs.Issuers.{anchored, authenticateIssuer}
-use Rattle.registry_backer.specs.Backers.{isBackerless, namesRegistry, resolvedBacker, ownWhere}
+use Rattle.registry_backing.specs.Backings.{ownWhere}
+use Rattle.registry_backer.specs.Backers.{isBackerless, namesRegistry, resolvedBacker}
 use Rattle.registry_transition.specs.Transitions.{transition}
 use Rattle.registry_issue.specs.IssueFolds.{Outcome}
 use Rattle.registry_credential_state.specs.declared.credential_state.Revocation.{Revocation}

@@ -36,7 +36,8 @@ use Rattle.registry_verification.specs.Sequence.{nextSn}
 use Rattle.registry_members.specs.Updated.{survivors, updatedMembers}
 use Rattle.registry_copy.proofs.Copies.{few-added}
 use Rattle.registry_authentication.specs.Issuers.{authenticateIssuer}
-use Rattle.registry_backer.specs.Backers.{isBackerless, enoughReceipts}
+use Rattle.registry_backing.specs.Backings.{enoughReceipts}
+use Rattle.registry_backer.specs.Backers.{isBackerless}
 use Rattle.registry_inception.specs.InceptionFolds.{thresholdFits}
 use Rattle.registry.specs.RegistryFolds.{vrtBackers, vrtAnswer, ingestEvent, rotated, ingestMessage, ingestDecoded}
 use Rattle.registry_rotation_read.specs.Rotations.{rotatedAt, rotationAt}

@@ -16,7 +16,7 @@ use Rattle.registry_signatures.specs.SignatureSections.{signaturesIn}
 use Rattle.registry_answer.specs.Answers.{firstOf}
 use Rattle.registry_answer.proofs.AnswerLaws.{first-passes, first-refuses, first-last}
 use Rattle.registry_authentication.proofs.AnchorUse.{message-in}
-use Rattle.registry_backer.specs.Backers.{enoughReceipts}
+use Rattle.registry_backing.specs.Backings.{enoughReceipts}
 use Rattle.registry_inception.specs.InceptionFolds.{thresholdFits}
 use Rattle.registry_inception.proofs.VcpLaws.{listed-size, vcpOf, clash, members, threshold, anchor, receipts, unnamed, named, clashes, agrees}
 use borrow.Author.Needs.{needs}

@@ -14,7 +14,7 @@ use Rattle.registry_error.specs.declared.error.Answer.the-variants.{Rejected}
 use Rattle.registry_error.specs.declared.error.RegistryRejection.the-variants.{BackerThreshold}
 use Rattle.registry_answer.specs.Answers.{accepts, acceptIf, backerSet, firstOf}
 use Rattle.registry_answer.proofs.AnswerLaws.{first-refused, first-accepted, first-failed, first-passed, first-last}
-use Rattle.registry_backer.specs.Backers.{enoughReceipts, backedBy}
+use Rattle.registry_backing.specs.Backings.{enoughReceipts, backedBy}
 
 module _ (toad : ℕ) (l : List BasicPrefix) (s : List Signature) (x : Answer) (e : x ≡ backerSet (checkMembers l)) where
   abbrev last : Answer

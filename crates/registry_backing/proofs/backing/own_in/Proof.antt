@@ -1,7 +1,7 @@
-use Rattle.registry_backer.specs.Backers.{ownWhere}
+use Rattle.registry_backing.specs.Backings.{ownWhere}
 use borrow.Author.Needs.{needs}
-use Rattle.registry_backer.proofs.backer.own_in.Statement.{statement}
-use Rattle.registry_backer.proofs.backer.own_in.Tie as tie
+use Rattle.registry_backing.proofs.backing.own_in.Statement.{statement}
+use Rattle.registry_backing.proofs.backing.own_in.Tie as tie
 
 backed-in-requires : tie.Need-backed-in-requires
 backed-in-requires c κs = search needs

@@ -7,11 +7,11 @@ use borrow.Author.Tests.{not-true, not-false}
 use Rattle.events_toad.specs.Toads.{exactOk}
 use Rattle.registry_signatures.specs.SignatureSections.{signaturesIn}
 use Rattle.registry_answer.specs.Answers.{backerSet}
-use Rattle.registry_backer.specs.Backers.{enoughReceipts}
-use Rattle.registry_backer.proofs.BackedLaws.{repeated, unfit, receipted}
+use Rattle.registry_backing.specs.Backings.{enoughReceipts}
+use Rattle.registry_backing.proofs.BackedLaws.{repeated, unfit, receipted}
 use borrow.Author.Needs.{needs}
-use Rattle.registry_backer.proofs.backer.backed_by.Statement.{statement}
-use Rattle.registry_backer.proofs.backer.backed_by.Tie as tie
+use Rattle.registry_backing.proofs.backing.backed_by.Statement.{statement}
+use Rattle.registry_backing.proofs.backing.backed_by.Tie as tie
 
 backer-set-requires : tie.Need-backer-set-requires
 backer-set-requires c κs = search needs
@@ -46,7 +46,7 @@ returns-3 c l k =
     let q = b5 .before .before .args in
     let t = q .toad .0 in
     let signatures = signaturesIn (now (q .s)) (q .signatures) in
-    let few : min (q .backers .count) 16 ≡ length l = omega (arith, k .count, k .few) in
+    let few : min (q .count) 16 ≡ length l = omega (arith, k .count, k .few) in
     c .enough-receipts .ensures ∙ ap (λ n. enoughReceipts t n signatures) few
     ∙ receipted t l signatures _ (b5 .backer-set .ensures ∙ ap backerSet (k .members)) (sym (b3 .before .accepts .ensures) ∙ not-false _ (b3 .if1 .left)) (ap (exactOk t) (sym (k .count)) ∙ sym (b1 .before .is-exact .ensures) ∙ not-false _ (b1 .if2 .left))
 

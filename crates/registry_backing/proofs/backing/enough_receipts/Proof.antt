@@ -1,7 +1,7 @@
-use Rattle.registry_backer.specs.Backers.{enoughReceipts}
+use Rattle.registry_backing.specs.Backings.{enoughReceipts}
 use borrow.Author.Needs.{needs}
-use Rattle.registry_backer.proofs.backer.enough_receipts.Statement.{statement}
-use Rattle.registry_backer.proofs.backer.enough_receipts.Tie as tie
+use Rattle.registry_backing.proofs.backing.enough_receipts.Statement.{statement}
+use Rattle.registry_backing.proofs.backing.enough_receipts.Tie as tie
 
 valid-receipts-requires : tie.Need-valid-receipts-requires
 valid-receipts-requires c κs = search needs
