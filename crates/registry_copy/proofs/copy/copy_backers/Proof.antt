@@ -6,11 +6,12 @@ use lib.ListN.{length, length-set}
 use Rattle.events_tel.specs.TelEvents.{membersIn}
 use Rattle.codec.specs.Layout.{sectionBytes}
 use Rattle.registry_members.specs.Updated.{survivors, updatedMembers}
-use Rattle.registry_copy.specs.NextStates.{nextMembers}
-use Rattle.registry_copy.proofs.Copies.{length-next, counted, set-before, backers-sets}
+use Rattle.registry_room.specs.NextStates.{nextMembers}
+use Rattle.registry_room.proofs.Counts.{length-next, counted}
+use Rattle.registry_copy.proofs.Copies.{set-before, backers-sets}
 use borrow.Author.Needs.{needs}
-use Rattle.registry_copy.proofs.next.copy_backers.Statement.{statement}
-use Rattle.registry_copy.proofs.next.copy_backers.Tie as tie
+use Rattle.registry_copy.proofs.copy.copy_backers.Statement.{statement}
+use Rattle.registry_copy.proofs.copy.copy_backers.Tie as tie
 
 -- how many members there are
 counts : (c : tie.After-at-most-16) → let z = c .before .before .before .before .before .before .before .before in (c .before .before .before .copy-survivors .result + c .at-most-16 .result ≡ length (nextMembers (now (z .args .held)) (now (z .args .s)) (z .args .p))) × (c .before .before .before .copy-survivors .result + c .at-most-16 .result ≤ 32)

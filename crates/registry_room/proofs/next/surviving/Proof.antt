@@ -8,10 +8,10 @@ use Rattle.codec.proofs.Loops.{times-next}
 use Rattle.codec_cursor.specs.Readers.{readPrefix, times}
 use Rattle.registry_rotation.proofs.Listed.{all-listed}
 use Rattle.registry_members.specs.Updated.{survivors}
-use Rattle.registry_copy.proofs.Copies.{count-kept, count-cut}
+use Rattle.registry_room.proofs.Counts.{count-kept, count-cut}
 use borrow.Author.Needs.{needs}
-use Rattle.registry_copy.proofs.next.surviving.Statement.{statement}
-use Rattle.registry_copy.proofs.next.surviving.Tie as tie
+use Rattle.registry_room.proofs.next.surviving.Statement.{statement}
+use Rattle.registry_room.proofs.next.surviving.Tie as tie
 
 abbrev Inv-loop : tie.InvT-loop
 Inv-loop held s cuts n m c₀ left₀ i₀ c left i =

@@ -1,65 +1,26 @@
-// The next state of a registry. Nothing that has 33 bytes is read into a value: it is copied from where it stands.
+// The next state of a registry, written. Nothing that has 33 bytes is read into a value: it is copied from where it stands.
 use cesr::primitive::Matter;
-use cesr_sn::number::Sn;
 use codec::section::at_most_16;
-use events_tel::config::Configs;
 use events_tel::tel::Listed;
-use events_toad::toad::Toad;
 use registry_bytes::writer::copy_front;
+use registry_room::next::NextState;
+use registry_room::next::is_enough;
+use registry_room::next::next_size;
 use registry_rotation::deltas::found_in;
 ghost use mathlib.Core.Path.{_≡_};
 ghost use Prim.Native.Nat.{_+_, _*_, _≤_};
-ghost use lib.Dec.{leb};
 ghost use lib.ListN.{length};
 ghost use lib.Seq.{sets};
 ghost use Rattle.laws.specs.Room.{room, put};
 ghost use Rattle.events_tel.specs.TelEvents.{membersIn};
 ghost use Rattle.codec.specs.Layout.{joined, sectionBytes, prefixBytes};
 ghost use Rattle.registry_members.specs.Updated.{survivors};
-ghost use Rattle.registry_copy.specs.NextStates.{nextMembers, nextBytes};
-
-// What a next state is made of: values, and places in two slices, the held bytes and the attempt's.
-pub struct NextState {
-    // Places in the held bytes.
-    pub id: usize,
-    pub issuer: usize,
-    pub sn: Sn,
-    // The place of the digest of the last event, in the attempt's bytes.
-    pub latest: usize,
-    pub toad: Toad,
-    pub configs: Configs,
-    // A list in the held bytes.
-    pub current: Listed,
-    // Lists in the attempt's bytes.
-    pub cuts: Listed,
-    pub additions: Listed,
-}
+ghost use Rattle.registry_room.specs.NextStates.{nextMembers, nextBytes};
 
 // How many bytes a state has, and whether they found room.
 pub struct Written {
     pub ok: bool,
     pub size: usize,
-}
-
-// How many of a list in the held bytes are not cut.
-pub fn surviving(held: &[u8], current: Listed, s: &[u8], cuts: Listed) -> usize
-    ensures { λ r. ⌜ r ≡ length (survivors (membersIn (now (s .entry)) cuts) (membersIn (now (held .entry)) current)) ⌝ }
-{
-    let n = at_most_16(current.count);
-    let m = at_most_16(cuts.count);
-    let mut c = current.start;
-    let mut left: usize = 0;
-    let mut i: usize = 0;
-    while i < n {
-        let p = c.prefix(held);
-        let cut = found_in(s, cuts.start, m, p.value);
-        c = p.next;
-        i += 1;
-        if !cut {
-            left += 1;
-        }
-    }
-    left
 }
 
 // Those that are not cut, stored behind a byte.
@@ -113,26 +74,6 @@ fn copy_backers(held: &[u8], s: &[u8], p: NextState, out: &mut [u8]) -> usize
     out[0] = count as u8;
     copy_members(s, p.additions, out, 1 + 33 * left);
     count
-}
-
-// How many bytes a next state has.
-fn next_size(held: &[u8], s: &[u8], p: NextState) -> usize
-    ensures { λ r. ⌜ r ≡ length (nextBytes (now (held .entry)) (now (s .entry)) p) ⌝ }
-{
-    let left = surviving(held, p.current, s, p.cuts);
-    let count = left + at_most_16(p.additions.count);
-    121 + p.configs.size() + 33 * count
-}
-
-// Whether so many bytes are enough. Where they are enough for all members, the cuts among them too, the survivors need not be counted.
-fn is_enough(held: &[u8], s: &[u8], p: NextState, bytes: usize) -> bool
-    ensures { λ r. ⌜ r ≡ leb (length (nextBytes (now (held .entry)) (now (s .entry)) p)) bytes ⌝ }
-{
-    let count = at_most_16(p.current.count) + at_most_16(p.additions.count);
-    if 121 + p.configs.size() + 33 * count <= bytes {
-        return true;
-    }
-    next_size(held, s, p) <= bytes
 }
 
 // The bytes of a next state, stored from the start of `out` on: all of them or none.

@@ -4,11 +4,11 @@ use native.Mathlib.Omega.{arith}
 use denote.Ref.{now}
 use lib.ListN.{length}
 use Rattle.events_tel.proofs.Configs.{view-size}
-use Rattle.registry_copy.specs.NextStates.{nextMembers}
-use Rattle.registry_copy.proofs.Copies.{few-left, counted, size-next}
+use Rattle.registry_room.specs.NextStates.{nextMembers}
+use Rattle.registry_room.proofs.Counts.{few-left, counted, size-next}
 use borrow.Author.Needs.{needs}
-use Rattle.registry_copy.proofs.next.next_size.Statement.{statement}
-use Rattle.registry_copy.proofs.next.next_size.Tie as tie
+use Rattle.registry_room.proofs.next.next_size.Statement.{statement}
+use Rattle.registry_room.proofs.next.next_size.Tie as tie
 
 full : (c : tie.Start) → length (c .args .p .configs .codes) ≡ 8
 full c = search needs

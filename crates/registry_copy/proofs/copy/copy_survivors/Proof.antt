@@ -11,10 +11,11 @@ use Rattle.codec_cursor.specs.Readers.{readPrefix, times}
 use Rattle.events_tel.specs.TelEvents.{membersIn}
 use Rattle.registry_rotation.proofs.Listed.{all-listed}
 use Rattle.registry_members.specs.Updated.{survivors}
-use Rattle.registry_copy.proofs.Copies.{count-kept, count-cut, survivors-cut, survivors-grow, survivor-next}
+use Rattle.registry_room.proofs.Counts.{count-kept, count-cut, survivors-cut, survivors-grow}
+use Rattle.registry_copy.proofs.Copies.{survivor-next}
 use borrow.Author.Needs.{needs}
-use Rattle.registry_copy.proofs.next.copy_survivors.Statement.{statement}
-use Rattle.registry_copy.proofs.next.copy_survivors.Tie as tie
+use Rattle.registry_copy.proofs.copy.copy_survivors.Statement.{statement}
+use Rattle.registry_copy.proofs.copy.copy_survivors.Tie as tie
 
 abbrev Inv-loop : tie.InvT-loop
 Inv-loop held s cuts out₀ n m c₀ left₀ i₀ out c left i =

@@ -6,11 +6,11 @@ use lib.Dec.{leb}
 use lib.ListN.{length}
 use borrow.Author.Tests.{le-leb}
 use Rattle.events_tel.proofs.Configs.{view-size}
-use Rattle.registry_copy.specs.NextStates.{nextBytes}
-use Rattle.registry_copy.proofs.Copies.{most-next, size-next}
+use Rattle.registry_room.specs.NextStates.{nextBytes}
+use Rattle.registry_room.proofs.Counts.{most-next, size-next}
 use borrow.Author.Needs.{needs}
-use Rattle.registry_copy.proofs.next.is_enough.Statement.{statement}
-use Rattle.registry_copy.proofs.next.is_enough.Tie as tie
+use Rattle.registry_room.proofs.next.is_enough.Statement.{statement}
+use Rattle.registry_room.proofs.next.is_enough.Tie as tie
 
 full : (c : tie.Start) → length (c .args .p .configs .codes) ≡ 8
 full c = search needs

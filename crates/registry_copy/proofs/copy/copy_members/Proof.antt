@@ -10,8 +10,8 @@ use Rattle.codec_cursor.specs.Readers.{readPrefix, times}
 use Rattle.registry_rotation.proofs.Listed.{all-listed}
 use Rattle.registry_copy.proofs.Copies.{member-next}
 use borrow.Author.Needs.{needs}
-use Rattle.registry_copy.proofs.next.copy_members.Statement.{statement}
-use Rattle.registry_copy.proofs.next.copy_members.Tie as tie
+use Rattle.registry_copy.proofs.copy.copy_members.Statement.{statement}
+use Rattle.registry_copy.proofs.copy.copy_members.Tie as tie
 
 abbrev Inv-loop : tie.InvT-loop
 Inv-loop s out₀ at n c₀ i₀ out c i =

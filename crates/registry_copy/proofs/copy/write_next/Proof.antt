@@ -12,11 +12,12 @@ use Rattle.events_tel.specs.Configs.{viewConfigs}
 use Rattle.events_tel.proofs.Configs.{view-size}
 use Rattle.codec.specs.Layout.{sectionBytes, prefixBytes}
 use Rattle.registry_bytes.proofs.StateWrites.{part-stored}
-use Rattle.registry_copy.specs.NextStates.{nextMembers, nextBytes}
-use Rattle.registry_copy.proofs.Copies.{few-next, size-next, next-sets}
+use Rattle.registry_room.specs.NextStates.{nextMembers, nextBytes}
+use Rattle.registry_room.proofs.Counts.{few-next, size-next}
+use Rattle.registry_copy.proofs.Copies.{next-sets}
 use borrow.Author.Needs.{needs}
-use Rattle.registry_copy.proofs.next.write_next.Statement.{statement}
-use Rattle.registry_copy.proofs.next.write_next.Tie as tie
+use Rattle.registry_copy.proofs.copy.write_next.Statement.{statement}
+use Rattle.registry_copy.proofs.copy.write_next.Tie as tie
 
 full : (c : tie.Start) → length (c .args .p .configs .codes) ≡ 8
 full c = search needs
