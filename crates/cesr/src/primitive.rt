@@ -1,7 +1,7 @@
 // A digest or a prefix: a code letter and 32 bytes (docs/RULES.md, "Bytes").
-use crate::number::put_word;
-use crate::number::word;
 use cesr_number::number::has_room;
+use cesr_number::number::read_u64;
+use cesr_number::number::write_u64;
 ghost use mathlib.Core.Path.{_≡_};
 ghost use Prim.Native.Nat.{_+_, _≤_};
 ghost use lib.ListN.{length};
@@ -25,10 +25,10 @@ fn put_matter(out: &mut [u8], at: usize, code: u8, w0: u64, w1: u64, w2: u64, w3
     ensures { λ r. ⌜ now (out .exit) ≡ sets (now (out .entry)) at (wordBytes code w0 w1 w2 w3) ⌝ }
 {
     out[at] = code;
-    put_word(out, at + 1, w0);
-    put_word(out, at + 9, w1);
-    put_word(out, at + 17, w2);
-    put_word(out, at + 25, w3);
+    write_u64(out, at + 1, w0);
+    write_u64(out, at + 9, w1);
+    write_u64(out, at + 17, w2);
+    write_u64(out, at + 25, w3);
 }
 
 // A digest that names its own content.
@@ -59,10 +59,10 @@ impl Matter {
         if has_room(s.len(), at, 33) {
             return Matter {
                 code: s[at] as u64,
-                w0: word(s, at + 1),
-                w1: word(s, at + 9),
-                w2: word(s, at + 17),
-                w3: word(s, at + 25),
+                w0: read_u64(s, at + 1),
+                w1: read_u64(s, at + 9),
+                w2: read_u64(s, at + 17),
+                w3: read_u64(s, at + 25),
             };
         }
         Matter::none()
@@ -100,15 +100,15 @@ impl Matter {
         if !has_room(s.len(), at, 33) {
             return Matter::none().same(self);
         }
-        let first = word(s, at + 1);
+        let first = read_u64(s, at + 1);
         if first != self.w0 {
             return false;
         }
         (s[at] as u64 == self.code)
             & (first == self.w0)
-            & (word(s, at + 9) == self.w1)
-            & (word(s, at + 17) == self.w2)
-            & (word(s, at + 25) == self.w3)
+            & (read_u64(s, at + 9) == self.w1)
+            & (read_u64(s, at + 17) == self.w2)
+            & (read_u64(s, at + 25) == self.w3)
     }
 
     // The primitive at a place, stored at another without being read. Stores all 33 bytes or none, and answers which.
@@ -122,10 +122,10 @@ impl Matter {
         if !has_room(free, at, 33) {
             return false;
         }
-        let w0 = word(s, from + 1);
-        let w1 = word(s, from + 9);
-        let w2 = word(s, from + 17);
-        let w3 = word(s, from + 25);
+        let w0 = read_u64(s, from + 1);
+        let w1 = read_u64(s, from + 9);
+        let w2 = read_u64(s, from + 17);
+        let w3 = read_u64(s, from + 25);
         put_matter(out, at, s[from], w0, w1, w2, w3);
         true
     }

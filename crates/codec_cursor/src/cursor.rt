@@ -1,6 +1,6 @@
 // A place in lent bytes. A cursor stops for good at the first fault, so that a chain of readers has no branch: what they read is used only where the last cursor has not stopped.
-use cesr::number::read_u8;
-use cesr::number::read_u32;
+use cesr_number::number::read_u8;
+use cesr_number::number::read_u32;
 use cesr::primitive::BasicPrefix;
 use cesr::primitive::Matter;
 use cesr::primitive::Said;

@@ -1,5 +1,5 @@
 // The rows of an image, each of 115 bytes: read where they stand, and held to the reading rules that speak of rows.
-use cesr::number::read_u64;
+use cesr_number::number::read_u64;
 use cesr::primitive::Matter;
 use cesr_sn::number::Sn;
 use codec_cursor::cursor::Cursor;

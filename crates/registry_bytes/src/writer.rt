@@ -1,5 +1,5 @@
 // The bytes of states: how many there are, and how they are stored.
-use cesr::number::write_u32;
+use cesr_number::number::write_u32;
 use cesr::primitive::Matter;
 use cesr_number::number::has_room;
 use cesr_sn::number::Sn;

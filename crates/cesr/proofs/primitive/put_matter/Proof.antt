@@ -3,36 +3,36 @@ use native.Mathlib.Omega.{arith}
 use denote.Ref.{now}
 use lib.ListN.{length-set}
 use borrow.Author.Needs.{needs}
-use Rattle.cesr.proofs.Matters.{word-sets}
+use Rattle.cesr.proofs.Matters.{words-put}
 use Rattle.cesr.proofs.primitive.put_matter.Statement.{statement}
 use Rattle.cesr.proofs.primitive.put_matter.Tie as tie
 
 slice-write-out : tie.Need-slice-write-out
 slice-write-out c = search needs
 
-add-put-word : tie.Need-add-put-word
-add-put-word c = search needs
+add-write-u64 : tie.Need-add-write-u64
+add-write-u64 c = search needs
 
-put-word-requires : tie.Need-put-word-requires
-put-word-requires c κs = simp length-set (omega (arith, c .before .before .pre))
+write-u64-requires : tie.Need-write-u64-requires
+write-u64-requires c κs = search needs
 
-add-put-word-2 : tie.Need-add-put-word-2
-add-put-word-2 c = search needs
+add-write-u64-2 : tie.Need-add-write-u64-2
+add-write-u64-2 c = search needs
 
-put-word-requires-2 : tie.Need-put-word-requires-2
-put-word-requires-2 c κs = omega (arith, c .before .before .before .before .before .before .pre, simp length-set at (c .before .before .before .put-word .kept .0))
+write-u64-requires-2 : tie.Need-write-u64-requires-2
+write-u64-requires-2 c κs = search needs
 
-add-put-word-3 : tie.Need-add-put-word-3
-add-put-word-3 c = search needs
+add-write-u64-3 : tie.Need-add-write-u64-3
+add-write-u64-3 c = search needs
 
-put-word-requires-3 : tie.Need-put-word-requires-3
-put-word-requires-3 c κs = omega (arith, c .before .before .before .before .before .before .before .before .before .before .pre, simp length-set at (c .before .before .before .before .before .before .before .put-word .kept .0), c .before .before .before .put-word2 .kept .0)
+write-u64-requires-3 : tie.Need-write-u64-requires-3
+write-u64-requires-3 c κs = search needs
 
-add-put-word-4 : tie.Need-add-put-word-4
-add-put-word-4 c = search needs
+add-write-u64-4 : tie.Need-add-write-u64-4
+add-write-u64-4 c = search needs
 
-put-word-requires-4 : tie.Need-put-word-requires-4
-put-word-requires-4 c κs = omega (arith, c .before .before .before .before .before .before .before .before .before .before .before .before .before .before .pre, simp length-set at (c .before .before .before .before .before .before .before .before .before .before .before .put-word .kept .0), c .before .before .before .before .before .before .before .put-word2 .kept .0, c .before .before .before .put-word3 .kept .0)
+write-u64-requires-4 : tie.Need-write-u64-requires-4
+write-u64-requires-4 c κs = search needs
 
 same-length : tie.Need-same-length
 same-length c =
@@ -40,7 +40,7 @@ same-length c =
     let b6 = b2 .before .before .before .before in
     let b10 = b6 .before .before .before .before in
     let b14 = b10 .before .before .before .before in
-    b2 .put-word4 .kept .0 ∙ b6 .put-word3 .kept .0 ∙ b10 .put-word2 .kept .0 ∙ simp length-set at (b14 .put-word .kept .0)
+    b2 .write-u644 .kept .0 ∙ b6 .write-u643 .kept .0 ∙ b10 .write-u642 .kept .0 ∙ simp length-set at (b14 .write-u64 .kept .0)
 
 returns : tie.Need-returns
 returns c =
@@ -49,20 +49,20 @@ returns c =
     let b10 = b6 .before .before .before .before in
     let b14 = b10 .before .before .before .before in
     let a = b14 .before .before .before .args in
-    b2 .put-word4 .ensures ∙ rw (b6 .put-word3 .ensures, b10 .put-word2 .ensures, b14 .put-word .ensures) (word-sets (now (a .out)) (a .at) (a .code) (a .w0) (a .w1) (a .w2) (a .w3))
+    b2 .write-u644 .ensures .1 ∙ rw (b6 .write-u643 .ensures .1, b10 .write-u642 .ensures .1, b14 .write-u64 .ensures .1) (words-put (now (a .out)) (a .at) (a .code) (a .w0) (a .w1) (a .w2) (a .w3) (b14 .before .before .before .pre))
 
 pub put-matter-spec : {M : Type 1} → statement M
 put-matter-spec =
     tie.close
     (tie.spec
     slice-write-out
-    add-put-word
-    put-word-requires
-    add-put-word-2
-    put-word-requires-2
-    add-put-word-3
-    put-word-requires-3
-    add-put-word-4
-    put-word-requires-4
+    add-write-u64
+    write-u64-requires
+    add-write-u64-2
+    write-u64-requires-2
+    add-write-u64-3
+    write-u64-requires-3
+    add-write-u64-4
+    write-u64-requires-4
     same-length
     returns)

@@ -45,29 +45,29 @@ returns-2 c =
     let m = readMatter (now (a .s)) (a .from) in
     refused (now (a .out)) (a .at) 33 (matterBytes m) (length-matter m) (sym (c .before .has-room2 .ensures) ∙ not-true _ (c .if2 .taken))
 
-add-word : tie.Need-add-word
-add-word c = omega (arith, fits c)
+add-read-u64 : tie.Need-add-read-u64
+add-read-u64 c = omega (arith, fits c)
 
-word-requires : tie.Need-word-requires
-word-requires c κs = omega (arith, fits c)
+read-u64-requires : tie.Need-read-u64-requires
+read-u64-requires c κs = search needs
 
-add-word-2 : tie.Need-add-word-2
-add-word-2 c = omega (arith, fits (c .before))
+add-read-u64-2 : tie.Need-add-read-u64-2
+add-read-u64-2 c = omega (arith, fits (c .before))
 
-word-requires-2 : tie.Need-word-requires-2
-word-requires-2 c κs = omega (arith, fits (c .before))
+read-u64-requires-2 : tie.Need-read-u64-requires-2
+read-u64-requires-2 c κs = search needs
 
-add-word-3 : tie.Need-add-word-3
-add-word-3 c = omega (arith, fits (c .before .before))
+add-read-u64-3 : tie.Need-add-read-u64-3
+add-read-u64-3 c = omega (arith, fits (c .before .before))
 
-word-requires-3 : tie.Need-word-requires-3
-word-requires-3 c κs = omega (arith, fits (c .before .before))
+read-u64-requires-3 : tie.Need-read-u64-requires-3
+read-u64-requires-3 c κs = search needs
 
-add-word-4 : tie.Need-add-word-4
-add-word-4 c = omega (arith, fits (c .before .before .before))
+add-read-u64-4 : tie.Need-add-read-u64-4
+add-read-u64-4 c = omega (arith, fits (c .before .before .before))
 
-word-requires-4 : tie.Need-word-requires-4
-word-requires-4 c κs = omega (arith, fits (c .before .before .before))
+read-u64-requires-4 : tie.Need-read-u64-requires-4
+read-u64-requires-4 c κs = search needs
 
 shared-slice-read-put-matter : tie.Need-shared-slice-read-put-matter
 shared-slice-read-put-matter c = omega (arith, fits (c .before .before .before .before .before .before))
@@ -93,7 +93,7 @@ returns-3 c =
     let a = b11 .before .before .before .before .args in
     let m = readMatter (now (a .s)) (a .from) in
     stored (now (a .out)) (a .at) 33 (matterBytes m) _ (length-matter m) (sym (b9 .before .has-room2 .ensures) ∙ not-false _ (b9 .if2 .left))
-    (c .before .before .put-matter .ensures ∙ rw (b5 .word4 .ensures, b6 .word3 .ensures, b7 .word2 .ensures, b8 .word .ensures, matter-copied (now (a .s)) (a .from) (sym (b11 .before .has-room .ensures) ∙ not-false _ (b11 .if1 .left)) (b3 .shared-slice-known2 .given (a .from) .fits)))
+    (c .before .before .put-matter .ensures ∙ rw (b5 .read-u644 .ensures, b6 .read-u643 .ensures, b7 .read-u642 .ensures, b8 .read-u64 .ensures, matter-copied (now (a .s)) (a .from) (sym (b11 .before .has-room .ensures) ∙ not-false _ (b11 .if1 .left)) (b3 .shared-slice-known2 .given (a .from) .fits)))
 
 pub copy-spec : {M : Type 1} → statement M
 copy-spec =
@@ -106,14 +106,14 @@ copy-spec =
     returns
     has-room-requires-2
     returns-2
-    add-word
-    word-requires
-    add-word-2
-    word-requires-2
-    add-word-3
-    word-requires-3
-    add-word-4
-    word-requires-4
+    add-read-u64
+    read-u64-requires
+    add-read-u64-2
+    read-u64-requires-2
+    add-read-u64-3
+    read-u64-requires-3
+    add-read-u64-4
+    read-u64-requires-4
     shared-slice-read-put-matter
     put-matter-requires
     same-length-2

@@ -9,8 +9,8 @@ use borrow.Author.Needs.{needs}
 use borrow.Author.Tests.{leb-true}
 use Rattle.laws.specs.Number.{number}
 use Rattle.laws.proofs.Number.{read-whole, read-none}
-use Rattle.cesr.proofs.number.read_u8.Statement.{statement}
-use Rattle.cesr.proofs.number.read_u8.Tie as tie
+use Rattle.cesr_number.proofs.number.read_u8.Statement.{statement}
+use Rattle.cesr_number.proofs.number.read_u8.Tie as tie
 
 one-byte : (s : List ℕ) (at : ℕ) → getD s at 0 ≡ number s at 1
 unfolding number

@@ -1,8 +1,8 @@
 use native.Mathlib.Nat.{add-zero, zero-mul, zero-add}
 use borrow.Author.Needs.{needs}
 use Rattle.laws.specs.Number.{number}
-use Rattle.cesr.proofs.number.pair.Statement.{statement}
-use Rattle.cesr.proofs.number.pair.Tie as tie
+use Rattle.cesr_number.proofs.number.pair.Statement.{statement}
+use Rattle.cesr_number.proofs.number.pair.Tie as tie
 
 shared-slice-read-join2 : tie.Need-shared-slice-read-join2
 shared-slice-read-join2 c = search needs

@@ -2,8 +2,8 @@ use mathlib.Core.Path.{_∙_}
 use denote.Ref.{now}
 use borrow.Author.Needs.{needs}
 use Rattle.laws.proofs.Number.{sets-digits}
-use Rattle.cesr.proofs.number.put_word.Statement.{statement}
-use Rattle.cesr.proofs.number.put_word.Tie as tie
+use Rattle.cesr_number.proofs.number.put_word.Statement.{statement}
+use Rattle.cesr_number.proofs.number.put_word.Tie as tie
 
 cast-put-quad : tie.Need-cast-put-quad
 cast-put-quad c = search needs

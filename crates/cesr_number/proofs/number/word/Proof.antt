@@ -2,8 +2,8 @@ use mathlib.Core.Path.{sym}
 use denote.Ref.{now}
 use borrow.Author.Needs.{needs}
 use Rattle.laws.proofs.Number.{number-split}
-use Rattle.cesr.proofs.number.word.Statement.{statement}
-use Rattle.cesr.proofs.number.word.Tie as tie
+use Rattle.cesr_number.proofs.number.word.Statement.{statement}
+use Rattle.cesr_number.proofs.number.word.Tie as tie
 
 quad-requires : tie.Need-quad-requires
 quad-requires c κs = search needs

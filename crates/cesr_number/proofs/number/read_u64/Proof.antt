@@ -5,8 +5,8 @@ use lib.ListN.{length}
 use borrow.Author.Needs.{needs}
 use borrow.Author.Tests.{leb-true}
 use Rattle.laws.proofs.Number.{read-whole, read-none}
-use Rattle.cesr.proofs.number.read_u64.Statement.{statement}
-use Rattle.cesr.proofs.number.read_u64.Tie as tie
+use Rattle.cesr_number.proofs.number.read_u64.Statement.{statement}
+use Rattle.cesr_number.proofs.number.read_u64.Tie as tie
 
 has-room-requires : tie.Need-has-room-requires
 has-room-requires c κs = search needs

@@ -2,8 +2,8 @@ use mathlib.Core.Path.{_∙_}
 use denote.Ref.{now}
 use borrow.Author.Needs.{needs}
 use Rattle.laws.proofs.Number.{sets-digits}
-use Rattle.cesr.proofs.number.put_quad.Statement.{statement}
-use Rattle.cesr.proofs.number.put_quad.Tie as tie
+use Rattle.cesr_number.proofs.number.put_quad.Statement.{statement}
+use Rattle.cesr_number.proofs.number.put_quad.Tie as tie
 
 cast-put-pair : tie.Need-cast-put-pair
 cast-put-pair c = search needs

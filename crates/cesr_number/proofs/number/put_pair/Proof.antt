@@ -3,8 +3,8 @@ use native.Mathlib.Numerals.{add-one}
 use lib.ListN.{length-set}
 use borrow.Author.Needs.{needs}
 use Rattle.laws.specs.Number.{digits}
-use Rattle.cesr.proofs.number.put_pair.Statement.{statement}
-use Rattle.cesr.proofs.number.put_pair.Tie as tie
+use Rattle.cesr_number.proofs.number.put_pair.Statement.{statement}
+use Rattle.cesr_number.proofs.number.put_pair.Tie as tie
 
 cast-out : tie.Need-cast-out
 cast-out c = search needs
