@@ -1,25 +1,21 @@
 -- Laws of primitives.
---     words-put                a letter and four words are stored one by one
 --     words-there              the words of a primitive that is there
 --     length-matter            it has 33 bytes
 --     matter-apart             primitives that differ in the first word
 --     eq-matter, matter-eq     equality as a test, and as a path
 --     eq-said, said-eq, eq-prefix, prefix-eq   the same in either role
-use Prim.Native.Nat.{ℕ, _+_, _%_, _<_, _≤_}
+use Prim.Native.Nat.{ℕ, _+_, _%_, _<_}
 use mathlib.Core.Path.{_≡_, refl, sym, ap, _∙_}
 use mathlib.Core.List.{List}
 use mathlib.Core.Bool.{Bool, true, false, cond, _&&_}
-use native.Mathlib.Nat.{add-assoc, mod-eq-of-lt}
-use native.Mathlib.Numerals.{add-one}
+use native.Mathlib.Nat.{mod-eq-of-lt}
 use native.Mathlib.Omega.{arith}
 use borrow.Author.Tests.{eq-eqb, ne-eqb, eqb-true, leb-true}
 use lib.Dec.{leb, eqb}
-use lib.ListN.{length, set, length-append, length-set}
-use lib.Seq.{sets, length-sets}
+use lib.ListN.{length, length-append}
 use Rattle.laws.specs.Number.{number, numberAt, digits}
-use Rattle.laws.specs.Room.{room, put}
+use Rattle.laws.specs.Room.{room}
 use Rattle.laws.proofs.Number.{length-digits, whole-number}
-use Rattle.laws.proofs.Room.{sets-append, put-sets}
 use Rattle.laws.proofs.Tests.{and-left, and-right}
 use Rattle.cesr.specs.declared.primitive.Matter.{Matter}
 use Rattle.cesr.specs.declared.primitive.Said.{Said}
@@ -28,22 +24,6 @@ use Rattle.cesr.specs.Primitives.{none, wordBytes, matterBytes, readMatt
 
 pub made : {a b c d e a' b' c' d' e' : ℕ} → a ≡ a' → b ≡ b' → c ≡ c' → d ≡ d' → e ≡ e' → _≡_ {A = Matter} (record { code = a; w0 = b; w1 = c; w2 = d; w3 = e }) (record { code = a'; w0 = b'; w1 = c'; w2 = d'; w3 = e' })
 made p q r s t = cc
-
-word-sets : (l : List ℕ) (at c x y z w : ℕ) → sets (sets (sets (sets (set l at c) (at + 1) (digits 8 x)) (at + 9) (digits 8 y)) (at + 17) (digits 8 z)) (at + 25) (digits 8 w) ≡ sets l at (wordBytes c x y z w)
-word-sets l at c x y z w = simp (sets-append, length-digits, add-assoc) (rw (add-one at))
-
-pub words-put : (l : List ℕ) (at c x y z w : ℕ) → at + 33 ≤ length l → put (put (put (put (set l at c) (at + 1) (digits 8 x)) (at + 9) (digits 8 y)) (at + 17) (digits 8 z)) (at + 25) (digits 8 w) ≡ sets l at (wordBytes c x y z w)
-words-put l at c x y z w h =
-    let l0 = set l at c in
-    let l1 = sets l0 (at + 1) (digits 8 x) in
-    let l2 = sets l1 (at + 9) (digits 8 y) in
-    let l3 = sets l2 (at + 17) (digits 8 z) in
-    let n : length l3 ≡ length l = simp (length-sets, length-set) in
-    let p0 = put-sets l0 (at + 1) 8 (digits 8 x) (length-digits 8 x) (rw length-set (omega arith)) in
-    let p1 = put-sets l1 (at + 9) 8 (digits 8 y) (length-digits 8 y) (simp (length-sets, length-set) (omega arith)) in
-    let p2 = put-sets l2 (at + 17) 8 (digits 8 z) (length-digits 8 z) (simp (length-sets, length-set) (omega arith)) in
-    let p3 = put-sets l3 (at + 25) 8 (digits 8 w) (length-digits 8 w) (omega (arith, n)) in
-    rw (p0, p1, p2, p3) (word-sets l at c x y z w)
 
 pub length-matter : (m : Matter) → length (matterBytes m) ≡ 33
 unfolding matterBytes

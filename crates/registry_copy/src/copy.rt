@@ -1,5 +1,5 @@
 // The next state of a registry, written. Nothing that has 33 bytes is read into a value: it is copied from where it stands.
-use cesr::primitive::Matter;
+use cesr_write::matter::copy_matter;
 use codec::section::at_most_16;
 use events_tel::tel::Listed;
 use registry_bytes::writer::copy_front;
@@ -41,7 +41,7 @@ fn copy_survivors(held: &[u8], current: Listed, s: &[u8], cuts: Listed, out: &mu
         c = p.next;
         i += 1;
         if !gone {
-            Matter::copy(held, from, out, 1 + 33 * left);
+            copy_matter(held, from, out, 1 + 33 * left);
             left += 1;
         }
     }
@@ -57,7 +57,7 @@ fn copy_members(s: &[u8], list: Listed, out: &mut [u8], at: usize)
     let mut c = list.start;
     let mut i: usize = 0;
     while i < n {
-        Matter::copy(s, c.at, out, at + 33 * i);
+        copy_matter(s, c.at, out, at + 33 * i);
         c = c.pass_prefix(s);
         i += 1;
     }

@@ -36,14 +36,14 @@ fits c =
     let z = c .before .before .before in
     omega (arith, z .pre, ap length (all-listed (now (z .args .s)) (z .args .list) _ (c .at-most-16 .ensures)), length-times readPrefix (now (z .args .s)) (z .args .list .start) (c .at-most-16 .result))
 
-mul-copy : tie.Need-mul-copy Inv-loop μ-loop
-mul-copy c = search needs
+mul-copy-matter : tie.Need-mul-copy-matter Inv-loop μ-loop
+mul-copy-matter c = search needs
 
-add-copy : tie.Need-add-copy Inv-loop μ-loop
-add-copy c = omega (arith, fits (c .before .before .before .before))
+add-copy-matter : tie.Need-add-copy-matter Inv-loop μ-loop
+add-copy-matter c = omega (arith, fits (c .before .before .before .before))
 
-copy-requires : tie.Need-copy-requires Inv-loop μ-loop
-copy-requires c κs = search needs
+copy-matter-requires : tie.Need-copy-matter-requires Inv-loop μ-loop
+copy-matter-requires c κs = search needs
 
 pass-prefix-requires : tie.Need-pass-prefix-requires Inv-loop μ-loop
 pass-prefix-requires c κs = search needs
@@ -61,9 +61,9 @@ loop-again c =
     let n = w .before .before .before .before .before in
     let z = n .before .before .before .args in (
       search needs,
-      w .copy .kept .1 .1 .0 ∙ l .inv .1,
+      w .copy-matter .kept .1 .1 .0 ∙ l .inv .1,
       times-passed readPrefix _ _ _ _ _ (l .inv .2) (c .pass-prefix .ensures),
-      w .copy .ensures .1 ∙ rw (l .inv .3) (member-next (now (z .s)) (z .list .start) (now (z .out)) (z .at) (l .i) (l .c) (l .inv .2) (omega (arith, fits n))),
+      w .copy-matter .ensures .1 ∙ rw (l .inv .3) (member-next (now (z .s)) (z .list .start) (now (z .out)) (z .at) (l .i) (l .c) (l .inv .2) (omega (arith, fits n))),
     )
 
 same-length : tie.Need-same-length Inv-loop μ-loop
@@ -85,9 +85,9 @@ copy-members-spec =
     μ-loop
     at-most-16-requires
     loop-holds
-    mul-copy
-    add-copy
-    copy-requires
+    mul-copy-matter
+    add-copy-matter
+    copy-matter-requires
     pass-prefix-requires
     add-i
     loop-less

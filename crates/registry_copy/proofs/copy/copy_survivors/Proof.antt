@@ -54,14 +54,14 @@ found-in-requires c κs = search needs
 add-i : tie.Need-add-i Inv-loop μ-loop
 add-i c = search needs
 
-mul-copy : tie.Need-mul-copy Inv-loop μ-loop
-mul-copy c = search needs
+mul-copy-matter : tie.Need-mul-copy-matter Inv-loop μ-loop
+mul-copy-matter c = search needs
 
-add-copy : tie.Need-add-copy Inv-loop μ-loop
-add-copy c = search needs
+add-copy-matter : tie.Need-add-copy-matter Inv-loop μ-loop
+add-copy-matter c = search needs
 
-copy-requires : tie.Need-copy-requires Inv-loop μ-loop
-copy-requires c κs = search needs
+copy-matter-requires : tie.Need-copy-matter-requires Inv-loop μ-loop
+copy-matter-requires c κs = search needs
 
 add-left : tie.Need-add-left Inv-loop μ-loop
 add-left c = search needs
@@ -87,8 +87,8 @@ loop-again c =
       search needs,
       times-next readPrefix _ _ _ _ _ (l .inv .2) (p .prefix .ensures),
       one,
-      w .copy .kept .1 .1 .0 ∙ l .inv .4,
-      w .copy .ensures .1 ∙ rw (l .inv .5) (survivor-next cuts (now (z .args .held)) (z .args .current .start) (l .i) _ _ _ (l .inv .2) (p .prefix .ensures) (p2 .found-in .ensures) (now (z .args .out)) (l .left) (l .inv .3) kept room),
+      w .copy-matter .kept .1 .1 .0 ∙ l .inv .4,
+      w .copy-matter .ensures .1 ∙ rw (l .inv .5) (survivor-next cuts (now (z .args .held)) (z .args .current .start) (l .i) _ _ _ (l .inv .2) (p .prefix .ensures) (p2 .found-in .ensures) (now (z .args .out)) (l .left) (l .inv .3) kept room),
     )
 
 loop-less-2 : tie.Need-loop-less-2 Inv-loop μ-loop
@@ -133,9 +133,9 @@ copy-survivors-spec =
     prefix-requires
     found-in-requires
     add-i
-    mul-copy
-    add-copy
-    copy-requires
+    mul-copy-matter
+    add-copy-matter
+    copy-matter-requires
     add-left
     loop-less
     loop-again

@@ -3,9 +3,9 @@ use native.Mathlib.Omega.{arith}
 use denote.Ref.{now}
 use lib.ListN.{length-set}
 use borrow.Author.Needs.{needs}
-use Rattle.cesr.proofs.Matters.{words-put}
-use Rattle.cesr.proofs.primitive.put_matter.Statement.{statement}
-use Rattle.cesr.proofs.primitive.put_matter.Tie as tie
+use Rattle.cesr_write.proofs.Stored.{words-put}
+use Rattle.cesr_write.proofs.matter.put_matter.Statement.{statement}
+use Rattle.cesr_write.proofs.matter.put_matter.Tie as tie
 
 slice-write-out : tie.Need-slice-write-out
 slice-write-out c = search needs

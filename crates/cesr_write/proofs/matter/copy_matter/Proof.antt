@@ -6,10 +6,10 @@ use lib.ListN.{length}
 use borrow.Author.Needs.{needs}
 use borrow.Author.Tests.{leb-true, not-true, not-false}
 use Rattle.laws.proofs.Room.{stored, refused}
 use Rattle.cesr.specs.Primitives.{none, matterBytes, readMatter}
 use Rattle.cesr.proofs.Matters.{length-matter, matter-none, matter-copied}
-use Rattle.cesr.proofs.primitive.Matter.copy.Statement.{statement}
-use Rattle.cesr.proofs.primitive.Matter.copy.Tie as tie
+use Rattle.cesr_write.proofs.matter.copy_matter.Statement.{statement}
+use Rattle.cesr_write.proofs.matter.copy_matter.Tie as tie
 
 -- the first test held, so the 33 bytes are there
 fits : (c : tie.Else2) → c .before .before .before .before .before .before .args .from + 33 ≤ length (now (c .before .before .before .before .before .before .args .s))
@@ -23,8 +23,8 @@ has-room-requires c κs = search needs
 none-requires : tie.Need-none-requires
 none-requires c κs = search needs
 
-write-requires : tie.Need-write-requires
-write-requires c κs = search needs
+write-matter-requires : tie.Need-write-matter-requires
+write-matter-requires c κs = search needs
 
 same-length : tie.Need-same-length
 same-length c = search needs
@@ -34,7 +34,7 @@ returns c =
     let b2 = c .before .before in
     let b5 = b2 .before .before .before in
     let a = b5 .before .before .before .before .args in
-    rw (sym (matter-none (now (a .s)) (a .from) (sym (b5 .before .has-room .ensures) ∙ not-true _ (b5 .if1 .taken))), sym (b2 .before .before .none .ensures)) (b2 .write .ensures)
+    rw (sym (matter-none (now (a .s)) (a .from) (sym (b5 .before .has-room .ensures) ∙ not-true _ (b5 .if1 .taken))), sym (b2 .before .before .none .ensures)) (b2 .write-matter .ensures)
 
 has-room-requires-2 : tie.Need-has-room-requires-2
 has-room-requires-2 c κs = search needs
@@ -95,13 +95,13 @@ returns-3 c =
     stored (now (a .out)) (a .at) 33 (matterBytes m) _ (length-matter m) (sym (b9 .before .has-room2 .ensures) ∙ not-false _ (b9 .if2 .left))
     (c .before .before .put-matter .ensures ∙ rw (b5 .read-u644 .ensures, b6 .read-u643 .ensures, b7 .read-u642 .ensures, b8 .read-u64 .ensures, matter-copied (now (a .s)) (a .from) (sym (b11 .before .has-room .ensures) ∙ not-false _ (b11 .if1 .left)) (b3 .shared-slice-known2 .given (a .from) .fits)))
 
-pub copy-spec : {M : Type 1} → statement M
-copy-spec =
+pub copy-matter-spec : {M : Type 1} → statement M
+copy-matter-spec =
     tie.close
     (tie.spec
     has-room-requires
     none-requires
-    write-requires
+    write-matter-requires
     same-length
     returns
     has-room-requires-2

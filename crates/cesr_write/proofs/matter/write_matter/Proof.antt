@@ -5,10 +5,10 @@ use borrow.Author.Tests.{leb-true, not-true, not-false}
 use lib.ListN.{length}
 use Prim.Native.Nat.{_+_}
 use Rattle.laws.proofs.Room.{stored, refused}
 use Rattle.cesr.specs.Primitives.{matterBytes}
 use Rattle.cesr.proofs.Matters.{length-matter}
-use Rattle.cesr.proofs.primitive.Matter.write.Statement.{statement}
-use Rattle.cesr.proofs.primitive.Matter.write.Tie as tie
+use Rattle.cesr_write.proofs.matter.write_matter.Statement.{statement}
+use Rattle.cesr_write.proofs.matter.write_matter.Tie as tie
 
 has-room-requires : tie.Need-has-room-requires
 has-room-requires c κs = search needs
@@ -16,7 +16,7 @@ has-room-requires c κs = search needs
 returns : tie.Need-returns
 returns c =
     let a = c .before .before .before .args in
-    refused (now (a .out)) (a .at) 33 (matterBytes (a .self)) (length-matter (a .self)) (sym (c .before .has-room .ensures) ∙ not-true _ (c .if1 .taken))
+    refused (now (a .out)) (a .at) 33 (matterBytes (a .m)) (length-matter (a .m)) (sym (c .before .has-room .ensures) ∙ not-true _ (c .if1 .taken))
 
 cast-code : tie.Need-cast-code
 cast-code c = search needs
@@ -35,9 +35,9 @@ returns-2 c =
     let b2 = c .before .before in
     let b5 = b2 .before .before .before in
     let a = b5 .before .before .before .args in
-    stored (now (a .out)) (a .at) 33 (matterBytes (a .self)) _ (length-matter (a .self)) (sym (b5 .before .has-room .ensures) ∙ not-false _ (b5 .if1 .left)) (b2 .put-matter .ensures)
+    stored (now (a .out)) (a .at) 33 (matterBytes (a .m)) _ (length-matter (a .m)) (sym (b5 .before .has-room .ensures) ∙ not-false _ (b5 .if1 .left)) (b2 .put-matter .ensures)
 
-pub write-spec : {M : Type 1} → statement M
-write-spec =
+pub write-matter-spec : {M : Type 1} → statement M
+write-matter-spec =
     tie.close
     (tie.spec has-room-requires returns cast-code put-matter-requires same-length returns-2)
