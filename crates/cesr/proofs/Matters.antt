@@ -1,23 +1,21 @@
 -- Laws of primitives.
---     word-sets                a letter and four words are stored one by one
+--     words-there              the words of a primitive that is there
 --     length-matter            it has 33 bytes
 --     matter-apart             primitives that differ in the first word
 --     eq-matter, matter-eq     equality as a test, and as a path
 --     eq-said, said-eq, eq-prefix, prefix-eq   the same in either role
 use Prim.Native.Nat.{ℕ, _+_, _%_, _<_}
-use mathlib.Core.Path.{_≡_, refl, sym, ap}
+use mathlib.Core.Path.{_≡_, refl, sym, ap, _∙_}
 use mathlib.Core.List.{List}
 use mathlib.Core.Bool.{Bool, true, false, cond, _&&_}
-use native.Mathlib.Nat.{add-assoc, mod-eq-of-lt}
-use native.Mathlib.Numerals.{add-one}
-use borrow.Author.Tests.{eq-eqb, ne-eqb, eqb-true}
+use native.Mathlib.Nat.{mod-eq-of-lt}
+use native.Mathlib.Omega.{arith}
+use borrow.Author.Tests.{eq-eqb, ne-eqb, eqb-true, leb-true}
 use lib.Dec.{leb, eqb}
-use lib.ListN.{length, set, length-append}
-use lib.Seq.{sets}
-use Rattle.laws.specs.Number.{number, digits}
+use lib.ListN.{length, length-append}
+use Rattle.laws.specs.Number.{number, numberAt, digits}
 use Rattle.laws.specs.Room.{room}
-use Rattle.laws.proofs.Number.{length-digits}
-use Rattle.laws.proofs.Room.{sets-append}
+use Rattle.laws.proofs.Number.{length-digits, whole-number}
 use Rattle.laws.proofs.Tests.{and-left, and-right}
 use Rattle.cesr.specs.declared.primitive.Matter.{Matter}
 use Rattle.cesr.specs.declared.primitive.Said.{Said}
@@ -26,9 +24,6 @@ use Rattle.cesr.specs.Primitives.{none, wordBytes, matterBytes, readMatt
 
 pub made : {a b c d e a' b' c' d' e' : ℕ} → a ≡ a' → b ≡ b' → c ≡ c' → d ≡ d' → e ≡ e' → _≡_ {A = Matter} (record { code = a; w0 = b; w1 = c; w2 = d; w3 = e }) (record { code = a'; w0 = b'; w1 = c'; w2 = d'; w3 = e' })
 made p q r s t = cc
-
-pub word-sets : (l : List ℕ) (at c x y z w : ℕ) → sets (sets (sets (sets (set l at c) (at + 1) (digits 8 x)) (at + 9) (digits 8 y)) (at + 17) (digits 8 z)) (at + 25) (digits 8 w) ≡ sets l at (wordBytes c x y z w)
-word-sets l at c x y z w = simp (sets-append, length-digits, add-assoc) (rw (add-one at))
 
 pub length-matter : (m : Matter) → length (matterBytes m) ≡ 33
 unfolding matterBytes
@@ -43,29 +38,47 @@ matter-apart a b h = rw (ne-eqb (a .w0) (b .w0) h) (go (eqb (a .code) (b .code))
     go true = refl
     go false = refl
 
+-- the words of a primitive that is there, each of which is read by itself
+pub record Words (s : List ℕ) (at : ℕ) : Type 0 where
+  pub w0 : numberAt s (at + 1) 8 ≡ number s (at + 1) 8
+  pub w1 : numberAt s (at + 9) 8 ≡ number s (at + 9) 8
+  pub w2 : numberAt s (at + 17) 8 ≡ number s (at + 17) 8
+  pub w3 : numberAt s (at + 25) 8 ≡ number s (at + 25) 8
+
+pub words-there : (s : List ℕ) (at : ℕ) → leb (at + 33) (length s) ≡ true → Words s at
+words-there s at h =
+    let k = leb-true (at + 33) (length s) h in
+    record { w0 = whole-number s (at + 1) 8 (omega (arith, k)); w1 = whole-number s (at + 9) 8 (omega (arith, k)); w2 = whole-number s (at + 17) 8 (omega (arith, k)); w3 = whole-number s (at + 25) 8 (omega (arith, k)) }
+
 -- what a reader that tests for room answers
-pub matter-whole : (s : List ℕ) (at : ℕ) (m : Matter) → leb (at + 33) (length s) ≡ true → m ≡ cond true (record { code = lib.ListN.getD s at 0; w0 = number s (at + 1) 8; w1 = number s (at + 9) 8; w2 = number s (at + 17) 8; w3 = number s (at + 25) 8 }) none → m ≡ readMatter s at
+pub matter-whole : (s : List ℕ) (at : ℕ) (m : Matter) → leb (at + 33) (length s) ≡ true → m ≡ record { code = lib.ListN.getD s at 0; w0 = numberAt s (at + 1) 8; w1 = numberAt s (at + 9) 8; w2 = numberAt s (at + 17) 8; w3 = numberAt s (at + 25) 8 } → m ≡ readMatter s at
 unfolding readMatter room
-matter-whole s at m h e = rw h e
+matter-whole s at m h e =
+    let w = words-there s at h in
+    e ∙ rw (h, w .w0, w .w1, w .w2, w .w3)
 
 pub matter-none : (s : List ℕ) (at : ℕ) → leb (at + 33) (length s) ≡ false → none ≡ readMatter s at
 unfolding readMatter room
 matter-none s at h = rw h
 
 -- the bytes of a primitive that is there are those that it is read from
-pub matter-copied : (s : List ℕ) (at : ℕ) → leb (at + 33) (length s) ≡ true → lib.ListN.getD s at 0 < 256 → matterBytes (readMatter s at) ≡ wordBytes (lib.ListN.getD s at 0) (number s (at + 1) 8) (number s (at + 9) 8) (number s (at + 17) 8) (number s (at + 25) 8)
+pub matter-copied : (s : List ℕ) (at : ℕ) → leb (at + 33) (length s) ≡ true → lib.ListN.getD s at 0 < 256 → matterBytes (readMatter s at) ≡ wordBytes (lib.ListN.getD s at 0) (numberAt s (at + 1) 8) (numberAt s (at + 9) 8) (numberAt s (at + 17) 8) (numberAt s (at + 25) 8)
 unfolding matterBytes readMatter room
-matter-copied s at h p = rw (h, mod-eq-of-lt p)
+matter-copied s at h p =
+    let w = words-there s at h in
+    rw (h, mod-eq-of-lt p, w .w0, w .w1, w .w2, w .w3)
 
 -- and it is compared by them
-pub same-whole : (m : Matter) (s : List ℕ) (at : ℕ) → leb (at + 33) (length s) ≡ true → (eqb (lib.ListN.getD s at 0) (m .code) && eqb (number s (at + 1) 8) (m .w0) && eqb (number s (at + 9) 8) (m .w1) && eqb (number s (at + 17) 8) (m .w2) && eqb (number s (at + 25) 8) (m .w3)) ≡ eqMatter (readMatter s at) m
+pub same-whole : (m : Matter) (s : List ℕ) (at : ℕ) → leb (at + 33) (length s) ≡ true → (eqb (lib.ListN.getD s at 0) (m .code) && eqb (numberAt s (at + 1) 8) (m .w0) && eqb (numberAt s (at + 9) 8) (m .w1) && eqb (numberAt s (at + 17) 8) (m .w2) && eqb (numberAt s (at + 25) 8) (m .w3)) ≡ eqMatter (readMatter s at) m
 unfolding eqMatter readMatter room
-same-whole m s at h = rw h
+same-whole m s at h =
+    let w = words-there s at h in
+    rw (h, w .w0, w .w1, w .w2, w .w3)
 
-pub apart-whole : (m : Matter) (s : List ℕ) (at : ℕ) → leb (at + 33) (length s) ≡ true → (number s (at + 1) 8 ≡ m .w0 → ⊥) → false ≡ eqMatter (readMatter s at) m
+pub apart-whole : (m : Matter) (s : List ℕ) (at : ℕ) → leb (at + 33) (length s) ≡ true → (numberAt s (at + 1) 8 ≡ m .w0 → ⊥) → false ≡ eqMatter (readMatter s at) m
 unfolding readMatter room
 apart-whole m s at h k =
-    rw h (sym (matter-apart (record { code = lib.ListN.getD s at 0; w0 = number s (at + 1) 8; w1 = number s (at + 9) 8; w2 = number s (at + 17) 8; w3 = number s (at + 25) 8 }) m k))
+    rw h (sym (matter-apart (record { code = lib.ListN.getD s at 0; w0 = number s (at + 1) 8; w1 = number s (at + 9) 8; w2 = number s (at + 17) 8; w3 = number s (at + 25) 8 }) m (λ e. k (words-there s at h .w0 ∙ e))))
 
 -- the test is true of equal primitives alone
 pub matter-eq : (a b : Matter) → eqMatter a b ≡ true → a ≡ b

@@ -1,3 +1,2 @@
-// The primitives of CESR that attempts and states are made of: digests, prefixes and numbers, read from bytes and written to bytes.
-pub mod number;
+// The primitives of CESR that attempts and states are made of: digests and prefixes, read from bytes and written to bytes.
 pub mod primitive;

@@ -1,13 +1,8 @@
 // A digest or a prefix: a code letter and 32 bytes (docs/RULES.md, "Bytes").
-use crate::number::put_word;
-use crate::number::word;
 use cesr_number::number::has_room;
+use cesr_number::number::read_u64;
 ghost use mathlib.Core.Path.{_≡_};
-ghost use Prim.Native.Nat.{_+_, _≤_};
-ghost use lib.ListN.{length};
-ghost use lib.Seq.{sets};
-ghost use Rattle.laws.specs.Room.{room, put};
-ghost use Rattle.cesr.specs.Primitives.{none, wordBytes, matterBytes, readMatter, saidAt, eqMatter, eqSaid, eqPrefix, isBasic, isSaid};
+ghost use Rattle.cesr.specs.Primitives.{none, readMatter, saidAt, eqMatter, eqSaid, eqPrefix, isBasic, isSaid};
 
 // The material of a primitive, whatever its role: the code letter, and the 32 bytes as four big-endian words. The letter has a word too: with a gap behind a single byte the compiler makes slow copies, and a lent state would have bits that mean nothing.
 #[repr(C)]
@@ -17,18 +12,6 @@ pub struct Matter {
     pub w1: u64,
     pub w2: u64,
     pub w3: u64,
-}
-
-// The letter and the four words, stored in 33 bytes.
-fn put_matter(out: &mut [u8], at: usize, code: u8, w0: u64, w1: u64, w2: u64, w3: u64)
-    requires { ⌜ at + 33 ≤ length (now out) ⌝ }
-    ensures { λ r. ⌜ now (out .exit) ≡ sets (now (out .entry)) at (wordBytes code w0 w1 w2 w3) ⌝ }
-{
-    out[at] = code;
-    put_word(out, at + 1, w0);
-    put_word(out, at + 9, w1);
-    put_word(out, at + 17, w2);
-    put_word(out, at + 25, w3);
 }
 
 // A digest that names its own content.
@@ -59,24 +42,13 @@ impl Matter {
         if has_room(s.len(), at, 33) {
             return Matter {
                 code: s[at] as u64,
-                w0: word(s, at + 1),
-                w1: word(s, at + 9),
-                w2: word(s, at + 17),
-                w3: word(s, at + 25),
+                w0: read_u64(s, at + 1),
+                w1: read_u64(s, at + 9),
+                w2: read_u64(s, at + 17),
+                w3: read_u64(s, at + 25),
             };
         }
         Matter::none()
-    }
-
-    pub fn write(self, out: &mut [u8], at: usize) -> bool
-        ensures { λ r. ⌜ (r ≡ room (now (out .entry)) at 33) × (now (out .exit) ≡ put (now (out .entry)) at (matterBytes self)) ⌝ }
-    {
-        if !has_room(out.len(), at, 33) {
-            return false;
-        }
-        let code = (self.code % 256) as u8;
-        put_matter(out, at, code, self.w0, self.w1, self.w2, self.w3);
-        true
     }
 
     // Most primitives that differ do so in the first word, so that is looked at first.
@@ -100,34 +72,15 @@ impl Matter {
         if !has_room(s.len(), at, 33) {
             return Matter::none().same(self);
         }
-        let first = word(s, at + 1);
+        let first = read_u64(s, at + 1);
         if first != self.w0 {
             return false;
         }
         (s[at] as u64 == self.code)
             & (first == self.w0)
-            & (word(s, at + 9) == self.w1)
-            & (word(s, at + 17) == self.w2)
-            & (word(s, at + 25) == self.w3)
-    }
-
-    // The primitive at a place, stored at another without being read. Stores all 33 bytes or none, and answers which.
-    pub fn copy(s: &[u8], from: usize, out: &mut [u8], at: usize) -> bool
-        ensures { λ r. ⌜ (r ≡ room (now (out .entry)) at 33) × (now (out .exit) ≡ put (now (out .entry)) at (matterBytes (readMatter (now (s .entry)) from))) ⌝ }
-    {
-        if !has_room(s.len(), from, 33) {
-            return Matter::none().write(out, at);
-        }
-        let free = out.len();
-        if !has_room(free, at, 33) {
-            return false;
-        }
-        let w0 = word(s, from + 1);
-        let w1 = word(s, from + 9);
-        let w2 = word(s, from + 17);
-        let w3 = word(s, from + 25);
-        put_matter(out, at, s[from], w0, w1, w2, w3);
-        true
+            & (read_u64(s, at + 9) == self.w1)
+            & (read_u64(s, at + 17) == self.w2)
+            & (read_u64(s, at + 25) == self.w3)
     }
 
     // The code letter is a basic prefix's: B or D, 66 or 68.

@@ -1,2 +1,2 @@
-// The test for room in lent bytes, and the sums of bytes that big-endian numbers are.
+// Big-endian numbers in lent bytes: the test for room, sums of bytes, readers and writers.
 pub mod number;

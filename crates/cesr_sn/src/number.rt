@@ -1,7 +1,7 @@
 // The sequence number: 128 bits in two words (docs/RULES.md, "Bytes").
-use cesr::number::read_u64;
-use cesr::number::write_u64;
 use cesr_number::number::has_room;
+use cesr_number::number::read_u64;
+use cesr_number::number::write_u64;
 ghost use mathlib.Core.Path.{_≡_};
 ghost use Prim.Native.Nat.{_+_, _-_, _^_};
 ghost use lib.Dec.{eqb, ltb};

@@ -1,10 +1,10 @@
 // A place in lent bytes. A cursor stops for good at the first fault, so that a chain of readers has no branch: what they read is used only where the last cursor has not stopped.
-use cesr::number::read_u8;
-use cesr::number::read_u32;
 use cesr::primitive::BasicPrefix;
 use cesr::primitive::Matter;
 use cesr::primitive::Said;
 use cesr_number::number::has_room;
+use cesr_number::number::read_u8;
+use cesr_number::number::read_u32;
 use cesr_sn::number::Sn;
 ghost use mathlib.Core.Path.{_≡_};
 ghost use Rattle.codec_cursor.specs.Readers.{starting, advanced, need, viewByte, readByte, viewSaid, readSaid, viewPrefix, readPrefix, viewMatter, readIdentifier, viewSn, readNumber, viewU32, readQuad, counted, letterOnly};

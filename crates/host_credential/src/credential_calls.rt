@@ -6,7 +6,7 @@ use host_parts::part::is_whole;
 use host_parts::part::malformed;
 use host_report::report::report_answer;
 use registry_answer::answer::accepts;
-use registry_backer::backer::own_in;
+use registry_backing::backing::own_in;
 use registry_credential_state::credential_state::ingest_read;
 use registry_issue::credential_state::incept_read;
 use registry_management::management::read_management;

@@ -10,8 +10,8 @@ use Rattle.cesr.specs.Primitives.{readMatter}
 use Rattle.cesr_sn.specs.declared.number.Sn.{Sn}
 use Rattle.codec_cursor.specs.Readers.{Read, starting}
 use Rattle.registry_head.specs.HeadBytes.{headBytes}
-use Rattle.registry_copy.specs.NextStates.{nextBytes}
-use Rattle.registry_copy.specs.declared.next.NextState.{NextState}
+use Rattle.registry_room.specs.NextStates.{nextBytes}
+use Rattle.registry_room.specs.declared.next.NextState.{NextState}
 use Rattle.registry_state.specs.States.{Registry, registryBytes, readRegistry}
 use Rattle.registry_state_credential.specs.CredentialStates.{credentialBytes}
 use Rattle.registry_error.specs.declared.error.RegistryRejection.the-variants.{Malformed, ShortBuffer}

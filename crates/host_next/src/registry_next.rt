@@ -1,9 +1,9 @@
 // A fold that accepts leaves the next state of a registry, which is made from bytes, at the start of a lent buffer, where its bytes find room.
 use host_report::report::report_sized;
 use registry_answer::answer::accept_if;
-use registry_copy::next::NextState;
-use registry_copy::next::write_next;
+use registry_copy::copy::write_next;
 use registry_error::error::RegistryRejection;
+use registry_room::next::NextState;
 ghost use mathlib.Core.Path.{_≡_};
 ghost use Rattle.host_next.specs.ByteFolds.{nextFolded, called, callOf};
 

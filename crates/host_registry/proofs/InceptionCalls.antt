@@ -10,8 +10,8 @@ use Rattle.codec_cursor.specs.declared.cursor.Cursor.{Cursor}
 use Rattle.codec_cursor.specs.Readers.{times}
 use Rattle.events_tel.specs.TelEvents.{snZero, membersIn}
 use Rattle.registry_members.specs.Updated.{survivors, updatedMembers}
-use Rattle.registry_copy.specs.NextStates.{nextMembers, nextBytes}
-use Rattle.registry_copy.specs.declared.next.NextState.{NextState}
+use Rattle.registry_room.specs.NextStates.{nextMembers, nextBytes}
+use Rattle.registry_room.specs.declared.next.NextState.{NextState}
 use Rattle.registry_state.specs.States.{registryBytes}
 use Rattle.registry_state.proofs.StateLoops.{registry-head}
 use Rattle.registry_answer.specs.Answers.{accepts}

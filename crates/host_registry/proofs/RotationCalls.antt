@@ -10,8 +10,8 @@ use mathlib.Core.Option.{some}
 use Rattle.cesr.specs.Primitives.{readMatter}
 use Rattle.events_tel.specs.TelEvents.{membersIn}
 use Rattle.events_tel.specs.declared.tel.Listed.{Listed}
-use Rattle.registry_copy.specs.NextStates.{nextMembers, nextBytes}
-use Rattle.registry_copy.specs.declared.next.NextState.{NextState}
+use Rattle.registry_room.specs.NextStates.{nextMembers, nextBytes}
+use Rattle.registry_room.specs.declared.next.NextState.{NextState}
 use Rattle.registry_state.specs.States.{Registry, registryBytes}
 use Rattle.registry_state.proofs.StateLoops.{registry-head}
 use Rattle.registry_management.specs.Managements.{viewManagement}

@@ -103,39 +103,14 @@ pub fn details(r: RegistryRejection) -> Values
     ensures { λ v. ⌜ valuesOf v ≡ detailsOf r ⌝ }
 {
     match r {
-        RegistryRejection::Malformed => Values::Nothing,
-        RegistryRejection::MissingRegistry => Values::Nothing,
-        RegistryRejection::DuplicateInception => Values::Nothing,
-        RegistryRejection::AlreadyIssued => Values::Nothing,
-        RegistryRejection::MissingCredentialState => Values::Nothing,
-        RegistryRejection::NotRegistryInception => Values::Nothing,
-        RegistryRejection::NotManagementRotation => Values::Nothing,
-        RegistryRejection::NotCredentialInception => Values::Nothing,
-        RegistryRejection::NotCredentialTransition => Values::Nothing,
-        RegistryRejection::InconsistentRegistry => Values::Nothing,
-        RegistryRejection::NoBackersWithBackers => Values::Nothing,
-        RegistryRejection::SimpleEventOnBackerRegistry => Values::Nothing,
-        RegistryRejection::BackedEventOnBackerlessRegistry => Values::Nothing,
-        RegistryRejection::RotationOnBackerlessRegistry => Values::Nothing,
-        RegistryRejection::SequenceNumberOverflow => Values::Nothing,
         RegistryRejection::OutOfOrder { expected, actual } => Values::Two(expected, actual),
-        RegistryRejection::PriorDigestMismatch => Values::Nothing,
-        RegistryRejection::MissingIssuer => Values::Nothing,
-        RegistryRejection::InconsistentIssuer => Values::Nothing,
-        RegistryRejection::MissingAnchor => Values::Nothing,
-        RegistryRejection::InconsistentAnchor => Values::Nothing,
-        RegistryRejection::InconsistentManagement => Values::Nothing,
         RegistryRejection::UnresolvedAnchor { sn } => Values::One(sn),
         RegistryRejection::BackerSet { rule, at } => two(rule_number(rule), at as u64),
-        RegistryRejection::TooManyBackers => Values::Nothing,
-        RegistryRejection::BackerThreshold => Values::Nothing,
         RegistryRejection::MissingBackerReceipts { valid, required } => two(
             valid as u64,
             required as u64,
         ),
-        RegistryRejection::InconsistentCredential => Values::Nothing,
-        RegistryRejection::NoRoom => Values::Nothing,
-        RegistryRejection::ShortBuffer => Values::Nothing,
+        _ => Values::Nothing,
     }
 }
 

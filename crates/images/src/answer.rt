@@ -1,9 +1,9 @@
 // What comes of an image, and whether a record expects it.
-use cesr::number::read_u8;
-use cesr::number::read_u16;
-use cesr::number::read_u32;
 use cesr::primitive::Matter;
 use cesr::primitive::Said;
+use cesr_number::number::read_u8;
+use cesr_number::number::read_u16;
+use cesr_number::number::read_u32;
 use ledger::ledger::look_up;
 use ledger::ledger::read_image;
 use ledger::ledger::write_image;

@@ -10,7 +10,7 @@ mod tally;
 use answer::Facts;
 use answer::agrees;
 use answer::answer;
-use cesr::number::read_u16;
+use cesr_number::number::read_u16;
 use ledger_table::table::Ledger;
 use libc::STDIN_FILENO;
 use libc::STDOUT_FILENO;

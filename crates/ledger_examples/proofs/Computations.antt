@@ -22,7 +22,8 @@ use Rattle.registry_verification.specs.Receipts.{hasGood, receipts}
 use Rattle.registry_verification.specs.Sequence.{nextSn}
 use Rattle.registry_transition.specs.Transitions.{transition}
 use Rattle.registry_members.specs.Updated.{survivors, updatedMembers}
-use Rattle.registry_backer.specs.Backers.{standsAt, enoughReceipts, backedBy, authenticateBacker}
+use Rattle.registry_backing.specs.Backings.{enoughReceipts, backedBy}
+use Rattle.registry_backer.specs.Backers.{standsAt, authenticateBacker}
 use Rattle.registry_authentication.specs.Issuers.{authenticateIssuer}
 use Rattle.registry_inception.specs.InceptionFolds as N
 use Rattle.registry.specs.RegistryFolds as R

@@ -1,7 +1,7 @@
 // How the program's input is cut in attempts (docs/RULES.md, "What the program prints"). The input may be of any length, so it is
 // read piece by piece: two bytes for the count, then two bytes and a body for each attempt. What each piece means is decided here.
-use cesr::number::read_u16;
 use cesr_number::number::has_room;
+use cesr_number::number::read_u16;
 ghost use mathlib.Core.Path.{_≡_};
 ghost use Prim.Native.Nat.{_-_, _≤_};
 ghost use lib.Dec.{ltb};

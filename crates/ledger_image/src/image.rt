@@ -1,6 +1,6 @@
 // The counts of an image's sections (docs/RULES.md, "Image").
-use cesr::number::read_u16;
-use cesr::number::write_u16;
+use cesr_number::number::read_u16;
+use cesr_number::number::write_u16;
 use codec::section::CountRead;
 use codec_cursor::cursor::Cursor;
 ghost use mathlib.Core.Path.{_≡_};

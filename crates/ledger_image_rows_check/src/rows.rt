@@ -1,6 +1,6 @@
 // The rows of an image, each of 115 bytes: read where they stand, and held to the reading rules that speak of rows.
-use cesr::number::read_u64;
 use cesr::primitive::Matter;
+use cesr_number::number::read_u64;
 use cesr_sn::number::Sn;
 use codec_cursor::cursor::Cursor;
 use ledger_image_ids::ids::Ids;

@@ -102,24 +102,17 @@ fn write_counts(out: &mut [u8], registries: usize, credentials: usize) -> usize
     size
 }
 
-fn write_broken(out: &mut [u8]) -> usize
-    ensures { λ r. ⌜ (r ≡ sizeIn (now (out .entry)) brokenLine) × (now (out .exit) ≡ put (now (out .entry)) 0 brokenLine) ⌝ }
-    ensures { λ r. ⌜ r ≤ length (now (out .exit)) ⌝ }
-{
-    if !has_room(out.len(), 0, 7) {
-        return 0;
-    }
-    put_text(out, 0, b"broken\n");
-    7
-}
-
 // The last line. It answers the line's length, or 0 where the buffer is too short.
 pub fn write_last(out: &mut [u8], broken: bool, registries: usize, credentials: usize) -> usize
     ensures { λ r. ⌜ (r ≡ sizeIn (now (out .entry)) (cond broken brokenLine (lastLine registries credentials))) × (now (out .exit) ≡ put (now (out .entry)) 0 (cond broken brokenLine (lastLine registries credentials))) ⌝ }
     ensures { λ r. ⌜ r ≤ length (now (out .exit)) ⌝ }
 {
-    if broken {
-        return write_broken(out);
+    if !broken {
+        return write_counts(out, registries, credentials);
     }
-    write_counts(out, registries, credentials)
+    if !has_room(out.len(), 0, 7) {
+        return 0;
+    }
+    put_text(out, 0, b"broken\n");
+    7
 }

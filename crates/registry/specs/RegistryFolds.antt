@@ -25,7 +25,8 @@ use Rattle.registry_answer.specs.Answers.{accepts, acceptIf, backerSet, firstOf
 use Rattle.registry_verification.specs.Sequence.{nextSn}
 use Rattle.registry_members.specs.Updated.{updatedMembers}
 use Rattle.registry_authentication.specs.Issuers.{authenticateIssuer}
-use Rattle.registry_backer.specs.Backers.{isBackerless, enoughReceipts}
+use Rattle.registry_backing.specs.Backings.{enoughReceipts}
+use Rattle.registry_backer.specs.Backers.{isBackerless}
 use Rattle.registry_inception.specs.InceptionFolds.{Outcome, thresholdFits, viewOutcome}
 use Rattle.registry_inception.specs.declared.registry.RegistryOutcome.{RegistryOutcome}
 

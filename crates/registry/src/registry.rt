@@ -9,7 +9,7 @@ use registry_answer::answer::accepts;
 use registry_answer::answer::backer_set;
 use registry_answer::answer::or_else;
 use registry_authentication::issuer::authenticate_issuer;
-use registry_backer::backer::enough_receipts;
+use registry_backing::backing::enough_receipts;
 use registry_error::error::Answer;
 use registry_error::error::RegistryRejection;
 use registry_inception::registry::RegistryOutcome;

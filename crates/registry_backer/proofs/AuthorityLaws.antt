@@ -1,4 +1,5 @@
 -- The authority by the evidence's byte, but for the registry's own backers.
+--     by-head      neither byte 1 nor 3: it is the registry's head, and only byte 2 says so
 --     unresolved   what refuses to resolve it is the answer
 --     by-held      byte 3: it is the state that is held
 --     by-own       another byte: it is the registry itself, and no other state is looked at
@@ -8,7 +9,7 @@
 use Prim.Native.Nat.{ℕ}
 use mathlib.Core.Path.{_≡_, refl, sym, ap, _∙_}
 use mathlib.Core.List.{List, [], _∷_}
-use mathlib.Core.Bool.{Bool, true, false, false≢true}
+use mathlib.Core.Bool.{Bool, true, false, _&&_, false≢true}
 use borrow.Author.Tests.{eqb-true, ne-eqb}
 use lib.Dec.{eqb}
 use Rattle.cesr.specs.Primitives.{eqMatter}
@@ -25,12 +26,21 @@ use Rattle.registry_wire.specs.Attempts.Evidence.{missing, issuer, backer, back
 use Rattle.registry_wire.specs.declared.attempt.Part.{Part}
 use Rattle.registry_error.specs.declared.error.Answer.{Answer}
 use Rattle.registry_error.specs.declared.error.Answer.the-variants.{Accepted, Rejected}
-use Rattle.registry_error.specs.declared.error.RegistryRejection.the-variants.{InconsistentRegistry}
+use Rattle.registry_error.specs.declared.error.RegistryRejection.the-variants.{InconsistentRegistry, UnresolvedAnchor}
 use Rattle.registry_answer.specs.Answers.{accepts, acceptIf, orElse, firstOf}
 use Rattle.registry_answer.proofs.AnswerLaws.{first-refused, first-accepted, first-last}
-use Rattle.registry_backer.specs.Backers.{resolvedBy, resolved, backedBy, authenticateBacker, carriedBacked, resolvedBacker, asksOwn, ownWhere}
+use Rattle.registry_backing.specs.Backings.{backedBy, ownWhere}
+use Rattle.registry_backer.specs.Backers.{standsAt, resolvedBy, resolved, authenticateBacker, carriedBacked, resolvedBacker, asksOwn}
 
 module _ (b : List ℕ) (n : ℕ) (p : Matter) (c : Part) where
+  head-or-none : (g h : Registry) (s : Sn) (d : Said) (t : Bool) → eqb n 2 ≡ t → (n ≡ 1 → ⊥) → (n ≡ 3 → ⊥) → acceptIf (eqb n 2 && standsAt g s d) (UnresolvedAnchor s) ≡ resolvedBy g s d (evidenceOf b n p c h)
+  unfolding evidenceOf acceptIf
+  head-or-none g h s d true e k m = rw (ne-eqb n 1 k, ne-eqb n 3 m, e)
+  head-or-none g h s d false e k m = rw (ne-eqb n 1 k, ne-eqb n 3 m, e)
+
+  pub by-head : (g h : Registry) (s : Sn) (d : Said) → (n ≡ 1 → ⊥) → (n ≡ 3 → ⊥) → acceptIf (eqb n 2 && standsAt g s d) (UnresolvedAnchor s) ≡ resolvedBy g s d (evidenceOf b n p c h)
+  by-head g h s d = head-or-none g h s d (eqb n 2) refl
+
   none-carried-by : (h : Registry) (l : List Signature) (t u : Bool) → eqb n 1 ≡ t → eqb n 3 ≡ false → eqb n 2 ≡ u → carriedBacked (evidenceOf b n p c h) l ≡ Accepted
   unfolding evidenceOf
   none-carried-by h l true u e f k = rw e

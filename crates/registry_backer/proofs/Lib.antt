@@ -1,2 +1,2 @@
 pub mod AuthorityLaws
-pub mod BackedLaws
+pub mod SealLaws

@@ -1,18 +1,13 @@
--- The authority of a bis or brv, and its receipts (docs/RULES.md, "Evidence", "Receipts").
-use Prim.Native.Nat.{ℕ}
+-- The authority of a bis or brv (docs/RULES.md, "Evidence").
 use mathlib.Core.List.{List, [], _∷_}
-use mathlib.Core.Bool.{Bool, true, false, cond, _&&_}
-use lib.Dec.{eqb, leb}
-use lib.ListN.{length}
+use mathlib.Core.Bool.{Bool, true, false, _&&_}
+use lib.Dec.{eqb}
 use Rattle.laws.specs.Words.{sameList}
 use Rattle.cesr_sn.specs.Numbers.{value}
 use Rattle.cesr.specs.Primitives.{eqMatter, eqSaid}
 use Rattle.cesr_sn.specs.declared.number.Sn.{Sn}
 use Rattle.cesr.specs.declared.primitive.Said.{Said}
-use Rattle.cesr.specs.declared.primitive.BasicPrefix.{BasicPrefix}
 use Rattle.events_seal.specs.Identifiers.{matterOf}
-use Rattle.events.specs.Members.{checkMembers}
-use Rattle.events_toad.specs.Toads.{exactOk}
 use Rattle.events_tel.specs.Configs.{noBackers}
 use Rattle.events_seal.specs.declared.seal.Seal.{Seal}
 use Rattle.events_seal.specs.declared.seal.Seal.the-variants.{Digest, Root, Source, Event, Last, Back, Kind, Opaque}
@@ -20,11 +15,11 @@ use Rattle.registry_state.specs.States.{Registry}
 use Rattle.registry_signatures.specs.SignatureSections.{Signature}
 use Rattle.registry_wire.specs.Attempts.{Evidence}
 use Rattle.registry_wire.specs.Attempts.Evidence.{missing, issuer, backer, backerAt}
-use Rattle.registry_error.specs.declared.error.RegistryRejection.the-variants.{InconsistentRegistry, InconsistentIssuer, InconsistentManagement, UnresolvedAnchor, BackerThreshold, MissingBackerReceipts}
+use Rattle.registry_error.specs.declared.error.RegistryRejection.the-variants.{InconsistentRegistry, InconsistentIssuer, InconsistentManagement, UnresolvedAnchor}
 use Rattle.registry_error.specs.declared.error.Answer.{Answer}
 use Rattle.registry_error.specs.declared.error.Answer.the-variants.{Accepted, Rejected}
-use Rattle.registry_answer.specs.Answers.{acceptIf, backerSet, orElse, firstOf}
-use Rattle.registry_verification.specs.Receipts.{receipts}
+use Rattle.registry_answer.specs.Answers.{acceptIf, orElse, firstOf}
+use Rattle.registry_backing.specs.Backings.{backedBy}
 
 -- a registry is backerless by its trait NoBackers, never by its list
 abbrev pub isBackerless : Registry → Bool
@@ -74,19 +69,6 @@ authority g (issuer prefix anchor) = g
 authority g backer = g
 authority g (backerAt h) = h
 
--- 27: a toad is met by as many valid receipts, so a toad of 0 by none
-unfoldable pub enoughReceipts : ℕ → ℕ → List Signature → Answer
-enoughReceipts toad backers l = acceptIf (leb toad (receipts backers l)) (MissingBackerReceipts (receipts backers l) toad)
-
--- 24, 26, 27 of the authority's toad and backers
-unfoldable pub backedBy : ℕ → List BasicPrefix → List Signature → Answer
-backedBy toad backers l =
-    firstOf
-    (backerSet (checkMembers backers)
-    ∷ acceptIf (exactOk toad (length backers)) BackerThreshold
-    ∷ enoughReceipts toad (length backers) l
-    ∷ [])
-
 -- 22 to 27 of bis and brv
 unfoldable pub authenticateBacker : Registry → Seal → Evidence → List Signature → Answer
 authenticateBacker g seal e l = firstOf (resolved g seal e ∷ backedBy (authority g e .toad) (authority g e .backers) l ∷ [])
@@ -110,7 +92,3 @@ asksOwn missing = false
 asksOwn (issuer prefix anchor) = false
 asksOwn backer = true
 asksOwn (backerAt h) = false
-
--- 24, 26, 27 of the registry's own toad and backers, where they are asked about
-unfoldable pub ownWhere : Bool → ℕ → List BasicPrefix → List Signature → Answer
-ownWhere own toad backers l = cond own (backedBy toad backers l) Accepted

@@ -1,35 +1,26 @@
-// The authority of a bis or brv, and its receipts (docs/RULES.md, "Evidence", "Receipts").
+// The authority of a bis or brv (docs/RULES.md, "Evidence").
 use cesr::primitive::Said;
 use cesr_sn::number::Sn;
 use codec_cursor::cursor::Cursor;
-use events::member_set::Members;
 use events_seal::seal::Seal;
-use events_tel::tel::Listed;
-use events_toad::toad::Toad;
 use registry_answer::answer::accept_if;
 use registry_answer::answer::accepts;
-use registry_answer::answer::backer_set;
+use registry_backing::backing::backed_in;
 use registry_error::error::Answer;
 use registry_error::error::RegistryRejection;
-use registry_management::management::Backing;
 use registry_management::management::Management;
-use registry_management::management::backing_in;
-use registry_management::management::backing_of;
 use registry_management::management::read_management;
 use registry_signatures::signatures::Counted;
-use registry_verification::verification::valid_receipts;
-ghost use Prim.Native.Nat.{ℕ, min};
+ghost use Prim.Native.Nat.{ℕ};
 ghost use mathlib.Core.Path.{_≡_};
 ghost use mathlib.Core.List.{List};
 ghost use Rattle.cesr.specs.declared.primitive.Matter.{Matter};
 ghost use Rattle.cesr.specs.declared.primitive.BasicPrefix.{BasicPrefix};
-ghost use Rattle.events.specs.Members.{view};
-ghost use Rattle.events_tel.specs.TelEvents.{membersIn};
-ghost use Rattle.registry_management.specs.Managements.{viewManagement, Backs};
+ghost use Rattle.registry_management.specs.Managements.{viewManagement};
 ghost use Rattle.registry_wire.specs.Attempts.{evidenceOf, evidenceAs};
 ghost use Rattle.registry_signatures.specs.SignatureSections.{signaturesIn};
 ghost use Rattle.registry_wire.specs.declared.attempt.Part.{Part};
-ghost use Rattle.registry_backer.specs.Backers.{sameRegistry, standsAt, resolvedBy, namesRegistry, resolved, enoughReceipts, backedBy, resolvedBacker, ownWhere};
+ghost use Rattle.registry_backer.specs.Backers.{sameRegistry, standsAt, resolvedBy, namesRegistry, resolved, resolvedBacker};
 
 // Whether two states are of one registry: id, issuer and config are the same.
 pub fn same_registry(g: Management, h: Management) -> bool
@@ -49,18 +40,15 @@ pub fn stands_at(g: Management, s: Sn, d: Said) -> bool
 pub fn resolved_by(g: Management, s: Sn, d: Said, evidence: u8, management: Management) -> Answer
     ensures { λ r. ⌜ ((b : List ℕ) (p : Matter) (c : Part) (k l : List BasicPrefix) → r ≡ resolvedBy (viewManagement g k) s d (evidenceOf b evidence p c (viewManagement management l))) ⌝ }
 {
-    if evidence == 1 {
-        return Answer::Rejected(RegistryRejection::InconsistentIssuer);
-    }
     if evidence == 3 {
         let held = same_registry(management, g) & stands_at(management, s, d);
         return accept_if(held, RegistryRejection::InconsistentManagement);
     }
-    if evidence == 2 {
-        let head = stands_at(g, s, d);
-        return accept_if(head, RegistryRejection::UnresolvedAnchor { sn: s });
+    if evidence == 1 {
+        return Answer::Rejected(RegistryRejection::InconsistentIssuer);
     }
-    Answer::Rejected(RegistryRejection::UnresolvedAnchor { sn: s })
+    let head = (evidence == 2) & stands_at(g, s, d);
+    accept_if(head, RegistryRejection::UnresolvedAnchor { sn: s })
 }
 
 // Whether a seal names the registry.
@@ -68,14 +56,8 @@ pub fn names_registry(seal: Seal, id: Said) -> bool
     ensures { λ r. ⌜ r ≡ namesRegistry seal id ⌝ }
 {
     match seal {
-        Seal::Digest => false,
-        Seal::Root => false,
-        Seal::Source => false,
         Seal::Event { i, s: _, d: _ } => i.matter().same(id.0),
-        Seal::Last => false,
-        Seal::Back => false,
-        Seal::Kind => false,
-        Seal::Opaque => false,
+        _ => false,
     }
 }
 
@@ -84,85 +66,14 @@ pub fn resolved(g: Management, seal: Seal, evidence: u8, management: Management)
     ensures { λ r. ⌜ ((b : List ℕ) (p : Matter) (c : Part) (k l : List BasicPrefix) → r ≡ resolved (viewManagement g k) seal (evidenceOf b evidence p c (viewManagement management l))) ⌝ }
 {
     match seal {
-        Seal::Digest => Answer::Rejected(RegistryRejection::InconsistentManagement),
-        Seal::Root => Answer::Rejected(RegistryRejection::InconsistentManagement),
-        Seal::Source => Answer::Rejected(RegistryRejection::InconsistentManagement),
         Seal::Event { i, s, d } => {
             if i.matter().same(g.id.0) {
                 return resolved_by(g, s, d, evidence, management);
             }
             Answer::Rejected(RegistryRejection::InconsistentRegistry)
         }
-        Seal::Last => Answer::Rejected(RegistryRejection::InconsistentManagement),
-        Seal::Back => Answer::Rejected(RegistryRejection::InconsistentManagement),
-        Seal::Kind => Answer::Rejected(RegistryRejection::InconsistentManagement),
-        Seal::Opaque => Answer::Rejected(RegistryRejection::InconsistentManagement),
+        _ => Answer::Rejected(RegistryRejection::InconsistentManagement),
     }
-}
-
-// Whether a toad is met by the good signatures of so many backers, the first 16 of them.
-pub fn enough_receipts(s: &[u8], signatures: Counted, backers: usize, toad: Toad) -> Answer
-    ensures { λ r. ⌜ r ≡ enoughReceipts (toad .0) (min backers 16) (signaturesIn (now (s .entry)) signatures) ⌝ }
-{
-    let valid = valid_receipts(s, signatures, backers);
-    let required = toad.value();
-    let enough = required as usize <= valid;
-    accept_if(
-        enough,
-        RegistryRejection::MissingBackerReceipts { valid, required },
-    )
-}
-
-// The rules on the authority's backers and toad, and its receipts.
-fn backed_by(s: &[u8], signatures: Counted, backers: Backing, toad: Toad) -> Answer
-    ensures { λ r. ⌜ ((l : List BasicPrefix) → Backs backers l → r ≡ backedBy (toad .0) l (signaturesIn (now (s .entry)) signatures)) ⌝ }
-{
-    let repeat = backers.members;
-    let members = backer_set(repeat);
-    if !accepts(members) {
-        return members;
-    }
-    let count = backers.count;
-    if !toad.is_exact(count) {
-        return Answer::Rejected(RegistryRejection::BackerThreshold);
-    }
-    enough_receipts(s, signatures, count, toad)
-}
-
-// The same of backers that stand in bytes.
-fn backed_in(s: &[u8], signatures: Counted, held: &[u8], backers: Listed, toad: Toad) -> Answer
-    ensures { λ r. ⌜ r ≡ backedBy (toad .0) (membersIn (now (held .entry)) backers) (signaturesIn (now (s .entry)) signatures) ⌝ }
-{
-    let backing = backing_in(held, backers);
-    backed_by(s, signatures, backing, toad)
-}
-
-// The rules on the registry's own backers, where they are asked about, over the bytes that its state is held in.
-pub fn own_in(
-    own: bool,
-    s: &[u8],
-    signatures: Counted,
-    held: &[u8],
-    backers: Listed,
-    toad: Toad,
-) -> Answer
-    ensures { λ r. ⌜ r ≡ ownWhere own (toad .0) (membersIn (now (held .entry)) backers) (signaturesIn (now (s .entry)) signatures) ⌝ }
-{
-    if own {
-        return backed_in(s, signatures, held, backers, toad);
-    }
-    Answer::Accepted
-}
-
-// The same of a list.
-pub fn own_of(own: bool, s: &[u8], signatures: Counted, backers: Members, toad: Toad) -> Answer
-    ensures { λ r. ⌜ r ≡ ownWhere own (toad .0) (view backers) (signaturesIn (now (s .entry)) signatures) ⌝ }
-{
-    if !own {
-        return Answer::Accepted;
-    }
-    let backing = backing_of(backers);
-    backed_by(s, signatures, backing, toad)
 }
 
 // The authority that BackerAt's state is, which is read from its place in the bytes.

@@ -1,2 +1,2 @@
-// The authority of a bis or brv, and its receipts (docs/RULES.md, "Evidence", "Receipts").
+// The authority of a bis or brv (docs/RULES.md, "Evidence").
 pub mod backer;

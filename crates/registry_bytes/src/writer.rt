@@ -1,8 +1,9 @@
 // The bytes of states: how many there are, and how they are stored.
-use cesr::number::write_u32;
 use cesr::primitive::Matter;
 use cesr_number::number::has_room;
+use cesr_number::number::write_u32;
 use cesr_sn::number::Sn;
+use cesr_write::matter::write_matter;
 use events::member_set::Members;
 use events_tel::config::Configs;
 use events_toad::toad::Toad;
@@ -109,7 +110,7 @@ fn write_backers(out: &mut [u8], backers: Members)
     let mut i: usize = 0;
     while i < n {
         let backer = backers.items[i];
-        backer.0.write(out, 1 + 33 * i);
+        write_matter(backer.0, out, 1 + 33 * i);
         i += 1;
     }
 }

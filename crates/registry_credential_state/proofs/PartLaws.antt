@@ -23,7 +23,8 @@ use Rattle.registry_answer.specs.Answers.{accepts, acceptIf, orElse, firstOf}
 use Rattle.registry_answer.proofs.AnswerLaws.{or-passes, or-refuses, first-last}
 use Rattle.registry_transition.specs.Transitions.{transition}
 use Rattle.registry_authentication.specs.Issuers.{anchored, authenticateIssuer}
-use Rattle.registry_backer.specs.Backers.{isBackerless, namesRegistry, authenticateBacker, resolvedBacker, asksOwn, ownWhere}
+use Rattle.registry_backing.specs.Backings.{ownWhere}
+use Rattle.registry_backer.specs.Backers.{isBackerless, namesRegistry, authenticateBacker, resolvedBacker, asksOwn}
 use Rattle.registry_backer.proofs.AuthorityLaws.{in-two-parts}
 use Rattle.registry_issue.proofs.OwnLaws.{in-parts, issuer-own}
 use Rattle.registry_error.specs.declared.error.Answer.{Answer}

@@ -15,7 +15,8 @@ use Rattle.registry_error.specs.declared.error.RegistryRejection.the-variants.{
 use Rattle.registry_error.specs.declared.error.Answer.{Answer}
 use Rattle.registry_error.specs.declared.error.Answer.the-variants.{Accepted}
 use Rattle.registry_answer.specs.Answers.{accepts, acceptIf, orElse}
-use Rattle.registry_backer.specs.Backers.{resolvedBacker, ownWhere}
+use Rattle.registry_backing.specs.Backings.{ownWhere}
+use Rattle.registry_backer.specs.Backers.{resolvedBacker}
 use Rattle.registry_transition.specs.Transitions.{transition}
 use Rattle.registry_issue.specs.IssueFolds.{Outcome}
 use Rattle.registry_credential_state.specs.CredentialFolds.{revChecks, brvChecks, eachTransition}

@@ -10,7 +10,7 @@ use registry_authentication::issuer::authenticate_issuer;
 use registry_authentication::issuer::message_anchored;
 use registry_backer::backer::authenticate_backer;
 use registry_backer::backer::names_registry;
-use registry_backer::backer::own_of;
+use registry_backing::backing::own_of;
 use registry_error::error::Answer;
 use registry_error::error::RegistryRejection;
 use registry_issue::credential_state::CredentialOutcome;

@@ -94,7 +94,6 @@ impl RegistryRejection {
         ensures { λ r. ⌜ r ≡ dispositionOf self ⌝ }
     {
         match self {
-            RegistryRejection::Malformed => Disposition::Terminal,
             RegistryRejection::MissingRegistry => Disposition::Awaiting(
                 EvidenceKind::RegistryState,
             ),
@@ -103,33 +102,14 @@ impl RegistryRejection {
             RegistryRejection::MissingCredentialState => Disposition::Awaiting(
                 EvidenceKind::CredentialTelState,
             ),
-            RegistryRejection::NotRegistryInception => Disposition::Terminal,
-            RegistryRejection::NotManagementRotation => Disposition::Terminal,
-            RegistryRejection::NotCredentialInception => Disposition::Terminal,
-            RegistryRejection::NotCredentialTransition => Disposition::Terminal,
-            RegistryRejection::InconsistentRegistry => Disposition::Terminal,
-            RegistryRejection::NoBackersWithBackers => Disposition::Terminal,
-            RegistryRejection::SimpleEventOnBackerRegistry => Disposition::Terminal,
-            RegistryRejection::BackedEventOnBackerlessRegistry => Disposition::Terminal,
-            RegistryRejection::RotationOnBackerlessRegistry => Disposition::Terminal,
-            RegistryRejection::SequenceNumberOverflow => Disposition::Terminal,
             RegistryRejection::OutOfOrder { expected, actual } => out_of_order(expected, actual),
-            RegistryRejection::PriorDigestMismatch => Disposition::Terminal,
             RegistryRejection::MissingIssuer => Disposition::Awaiting(EvidenceKind::IssuerState),
-            RegistryRejection::InconsistentIssuer => Disposition::Terminal,
             RegistryRejection::MissingAnchor => Disposition::Awaiting(EvidenceKind::KelAnchor),
-            RegistryRejection::InconsistentAnchor => Disposition::Terminal,
-            RegistryRejection::InconsistentManagement => Disposition::Terminal,
             RegistryRejection::UnresolvedAnchor { sn } =>
                 Disposition::Awaiting(EvidenceKind::TelAnchor { sn }),
-            RegistryRejection::BackerSet { rule: _, at: _ } => Disposition::Terminal,
-            RegistryRejection::TooManyBackers => Disposition::Terminal,
-            RegistryRejection::BackerThreshold => Disposition::Terminal,
             RegistryRejection::MissingBackerReceipts { valid, required } =>
                 Disposition::Awaiting(EvidenceKind::BackerReceipts { valid, required }),
-            RegistryRejection::InconsistentCredential => Disposition::Terminal,
-            RegistryRejection::NoRoom => Disposition::Terminal,
-            RegistryRejection::ShortBuffer => Disposition::Terminal,
+            _ => Disposition::Terminal,
         }
     }
 }

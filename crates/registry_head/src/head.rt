@@ -2,6 +2,8 @@
 use cesr::primitive::Matter;
 use cesr_number::number::has_room;
 use cesr_sn::number::Sn;
+use cesr_write::matter::copy_matter;
+use cesr_write::matter::write_matter;
 ghost use mathlib.Core.Path.{_≡_};
 ghost use Prim.Native.Nat.{_+_, _≤_};
 ghost use lib.ListN.{length};
@@ -45,10 +47,10 @@ fn copy_head(held: &[u8], id: usize, issuer: usize, sn: Sn, s: &[u8], latest: us
     requires { ⌜ 115 ≤ length (now out) ⌝ }
     ensures { λ r. ⌜ now (out .exit) ≡ sets (now (out .entry)) 0 (headBytes (readMatter (now (held .entry)) id) (readMatter (now (held .entry)) issuer) sn (readMatter (now (s .entry)) latest)) ⌝ }
 {
-    Matter::copy(held, id, out, 0);
-    Matter::copy(held, issuer, out, 33);
+    copy_matter(held, id, out, 0);
+    copy_matter(held, issuer, out, 33);
     sn.write(out, 66);
-    Matter::copy(s, latest, out, 82);
+    copy_matter(s, latest, out, 82);
 }
 
 // Two primitives, a number and a primitive, in 115 bytes.
@@ -56,8 +58,8 @@ fn write_head(out: &mut [u8], at: usize, a: Matter, b: Matter, sn: Sn, d: Matter
     requires { ⌜ at + 115 ≤ length (now out) ⌝ }
     ensures { λ r. ⌜ now (out .exit) ≡ sets (now (out .entry)) at (headBytes a b sn d) ⌝ }
 {
-    a.write(out, at);
-    b.write(out, at + 33);
+    write_matter(a, out, at);
+    write_matter(b, out, at + 33);
     sn.write(out, at + 66);
-    d.write(out, at + 82);
+    write_matter(d, out, at + 82);
 }

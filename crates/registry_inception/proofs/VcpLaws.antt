@@ -31,7 +31,7 @@ use Rattle.registry_answer.specs.Answers.{accepts, backerSet, orElse, firstOf}
 use Rattle.registry_answer.proofs.AnswerLaws.{first-passed, first-failed, first-passes, first-refuses, first-last, or-passes, or-refuses}
 use Rattle.registry_authentication.specs.Issuers.{namesIssuer, anchored}
 use Rattle.registry_authentication.proofs.EvidenceLaws.{no-issuer}
-use Rattle.registry_backer.specs.Backers.{enoughReceipts}
+use Rattle.registry_backing.specs.Backings.{enoughReceipts}
 use Rattle.registry_inception.specs.InceptionFolds.{thresholdFits, vcpList, vcpAnswer}
 
 -- a list that stays in the bytes has as many as are counted, and at most 16

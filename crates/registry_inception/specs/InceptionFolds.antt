@@ -21,7 +21,7 @@ use Rattle.registry_error.specs.declared.error.Answer.{Answer}
 use Rattle.registry_error.specs.declared.error.Answer.the-variants.{Rejected}
 use Rattle.registry_answer.specs.Answers.{accepts, acceptIf, backerSet, orElse, firstOf}
 use Rattle.registry_authentication.specs.Issuers.{issuerKind, namesIssuer, anchored}
-use Rattle.registry_backer.specs.Backers.{enoughReceipts}
+use Rattle.registry_backing.specs.Backings.{enoughReceipts}
 use Rattle.registry_inception.specs.declared.registry.RegistryOutcome.{RegistryOutcome}
 use Rattle.registry_inception.specs.declared.registry.Inception.{Inception}
 

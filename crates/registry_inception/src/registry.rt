@@ -13,7 +13,7 @@ use registry_answer::answer::accepts;
 use registry_answer::answer::backer_set;
 use registry_authentication::issuer::issuer_kind;
 use registry_authentication::issuer::message_anchored;
-use registry_backer::backer::enough_receipts;
+use registry_backing::backing::enough_receipts;
 use registry_error::error::Answer;
 use registry_error::error::RegistryRejection;
 use registry_rotation::deltas::check_members;

@@ -23,7 +23,8 @@ use Rattle.registry_authentication.proofs.AnchorUse.{judged-decoded, judged-mal
 use Rattle.registry_answer.specs.Answers.{accepts, acceptIf, firstOf}
 use Rattle.registry_answer.proofs.AnswerLaws.{or-first, passed, or-passes, or-refuses, first-refused, first-accepted, first-last}
 use Rattle.registry_authentication.specs.Issuers.{anchored, authenticateIssuer}
-use Rattle.registry_backer.specs.Backers.{isBackerless, resolvedBacker, ownWhere}
+use Rattle.registry_backing.specs.Backings.{ownWhere}
+use Rattle.registry_backer.specs.Backers.{isBackerless, resolvedBacker}
 use Rattle.registry_backer.proofs.AuthorityLaws.{asked-by}
 use Rattle.cesr.specs.Primitives.{eqSaid, saidAt, readMatter}
 use Rattle.cesr.proofs.Matters.{said-eq}

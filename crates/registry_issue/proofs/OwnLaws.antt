@@ -24,7 +24,8 @@ use Rattle.registry_error.specs.declared.error.RegistryRejection.the-variants.{
 use Rattle.registry_answer.specs.Answers.{acceptIf, orElse, firstOf}
 use Rattle.registry_answer.proofs.AnswerLaws.{first-last}
 use Rattle.registry_authentication.specs.Issuers.{issuerKind, anchored, authenticateIssuer}
-use Rattle.registry_backer.specs.Backers.{isBackerless, authenticateBacker, resolvedBacker, asksOwn, ownWhere}
+use Rattle.registry_backing.specs.Backings.{ownWhere}
+use Rattle.registry_backer.specs.Backers.{isBackerless, authenticateBacker, resolvedBacker, asksOwn}
 use Rattle.registry_backer.proofs.AuthorityLaws.{in-two-parts}
 use Rattle.registry_issue.specs.IssueFolds.{issAnswer, bisAnswer, inceptEvent}
 use Rattle.registry_issue.specs.IssueParts.{bisResolved, eventResolved}

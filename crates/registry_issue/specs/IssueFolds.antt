@@ -19,7 +19,8 @@ use Rattle.registry_error.specs.declared.error.Answer.{Answer}
 use Rattle.registry_error.specs.declared.error.Answer.the-variants.{Rejected}
 use Rattle.registry_answer.specs.Answers.{accepts, acceptIf, orElse, firstOf}
 use Rattle.registry_authentication.specs.Issuers.{anchored, authenticateIssuer}
-use Rattle.registry_backer.specs.Backers.{isBackerless, authenticateBacker, ownWhere}
+use Rattle.registry_backing.specs.Backings.{ownWhere}
+use Rattle.registry_backer.specs.Backers.{isBackerless, authenticateBacker}
 use Rattle.registry_issue.specs.declared.credential_state.CredentialOutcome.{CredentialOutcome}
 use Rattle.registry_issue.specs.declared.credential_state.Issue.{Issue}
 

@@ -7,7 +7,7 @@ use registry_answer::answer::accepts;
 use registry_authentication::issuer::authenticate_issuer;
 use registry_authentication::issuer::message_anchored;
 use registry_backer::backer::authenticate_backer;
-use registry_backer::backer::own_of;
+use registry_backing::backing::own_of;
 use registry_error::error::Answer;
 use registry_error::error::RegistryRejection;
 use registry_management::management::Management;

@@ -34,7 +34,8 @@ use Rattle.registry_error.specs.declared.error.Answer.{Answer}
 use Rattle.registry_error.specs.declared.error.Answer.the-variants.{Rejected}
 use Rattle.registry_error.specs.declared.error.RegistryRejection.the-variants.{Malformed, SequenceNumberOverflow, OutOfOrder, BackerSet}
 use Rattle.registry_authentication.specs.Issuers.{issuerKind, anchored, authenticateIssuer}
-use Rattle.registry_backer.specs.Backers.{resolvedBy, resolved, authority, enoughReceipts, backedBy, authenticateBacker}
+use Rattle.registry_backing.specs.Backings.{enoughReceipts, backedBy}
+use Rattle.registry_backer.specs.Backers.{resolvedBy, resolved, authority, authenticateBacker}
 use Rattle.registry_inception.specs.InceptionFolds as inceptions
 use Rattle.registry.specs.RegistryFolds as registries
 use Rattle.registry_verification.specs.Sequence.{snBehind, nextSn}

@@ -25,7 +25,8 @@ use Rattle.registry_answer.specs.Answers.{acceptIf, orElse, firstOf}
 use Rattle.registry_error.specs.declared.error.Answer.{Answer}
 use Rattle.registry_error.specs.declared.error.Answer.the-variants.{Accepted, Rejected}
 use Rattle.registry_error.specs.declared.error.RegistryRejection.the-variants.{Malformed, InconsistentRegistry}
-use Rattle.registry_backer.specs.Backers.{sameRegistry, resolvedBy, authority, backedBy, authenticateBacker}
+use Rattle.registry_backing.specs.Backings.{backedBy}
+use Rattle.registry_backer.specs.Backers.{sameRegistry, resolvedBy, authority, authenticateBacker}
 use Rattle.registry_issue.specs.IssueFolds.{Outcome, issAnswer, bisAnswer, inceptEvent, inceptMessage, inceptDecoded, inceptOf}
 use Rattle.registry_credential_state.specs.CredentialFolds.{revAnswer, brvAnswer, ingestEvent, ingestAnswer, ingestMessage, ingestDecoded, ingestOf}
 use Rattle.registry_laws.specs.States.{OneRegistry}

@@ -1,16 +1,12 @@
--- A registry's state in two parts: all but its backers, and what its backers come to.
-use Prim.Native.Nat.{ℕ, _≤_}
-use mathlib.Core.Path.{_≡_}
+-- A registry's state without its list of backers.
+use Prim.Native.Nat.{ℕ}
 use mathlib.Core.List.{List}
-use lib.ListN.{length}
 use Rattle.cesr.specs.declared.primitive.BasicPrefix.{BasicPrefix}
-use Rattle.events.specs.Members.{checkMembers}
 use Rattle.events_tel.specs.Configs.{viewConfigs}
 use Rattle.events_tel.specs.TelEvents.{membersIn}
 use Rattle.codec_cursor.specs.Readers.{Read}
 use Rattle.registry_state.specs.States.{Registry}
 use Rattle.registry_management.specs.declared.management.Management.{Management}
-use Rattle.registry_management.specs.declared.management.Backing.{Backing}
 use Rattle.registry_management.specs.declared.management.ManagementRead.{ManagementRead}
 
 -- the registry that it is with these backers
@@ -21,9 +17,3 @@ viewManagement m backers =
 -- and of one that was read, with the backers that stand in the bytes
 abbrev pub viewManagementRead : List ℕ → ManagementRead → Read Registry
 viewManagementRead s r = record { value = viewManagement (r .value) (membersIn s (r .backers)); next = r .next }
-
--- what a list comes to: the first repeat in it, and its length, which is at most 16
-pub record Backs (b : Backing) (backers : List BasicPrefix) : Type 0 where
-  pub members : b .members ≡ checkMembers backers
-  pub count : b .count ≡ length backers
-  pub few : length backers ≤ 16

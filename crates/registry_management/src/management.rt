@@ -1,26 +1,19 @@
-// A registry's state in two parts: all but its backers, and what its backers come to where they are an authority's. A list is copied at every call, and no rule on a credential's events looks into one but that on repeats.
+// All of a registry's state but its backers. A list is copied at every call, and no rule on a credential's events looks into one but that on repeats.
 use cesr::primitive::Matter;
 use cesr::primitive::Said;
 use cesr_sn::number::Sn;
-use codec::section::at_most_16;
 use codec::section::pass_prefixes;
 use codec::section::read_configs;
 use codec_cursor::cursor::Cursor;
-use events::member_set::Members;
-use events::member_set::Membership;
-use events_member_set::member_set::MemberSet;
 use events_tel::config::Configs;
 use events_tel::tel::Listed;
 use events_toad::toad::Toad;
-use registry_rotation::deltas::check_members;
 use registry_state::state::RegistryState;
 ghost use mathlib.Core.Path.{_≡_};
 ghost use Rattle.events.specs.Members.{view};
-ghost use Rattle.events_tel.specs.TelEvents.{membersIn};
 ghost use Rattle.registry_state.specs.States.{viewRegistry, readRegistry};
-ghost use Rattle.registry_management.specs.Managements.{viewManagement, viewManagementRead, Backs};
+ghost use Rattle.registry_management.specs.Managements.{viewManagement, viewManagementRead};
 
-// All of a registry's state but its backers.
 pub struct Management {
     pub id: Said,
     // An identifier.
@@ -30,12 +23,6 @@ pub struct Management {
     pub latest: Said,
     pub toad: Toad,
     pub configs: Configs,
-}
-
-// What a list of backers comes to: whether one stands twice, and how many there are.
-pub struct Backing {
-    pub members: Membership,
-    pub count: usize,
 }
 
 // The backers stay in the bytes.
@@ -62,14 +49,6 @@ pub fn management_of(g: RegistryState) -> Management
         toad,
         configs,
     }
-}
-
-pub fn backing_of(backers: Members) -> Backing
-    ensures { λ r. ⌜ Backs r (view backers) ⌝ }
-{
-    let members = MemberSet::check_members(backers);
-    let count = backers.size();
-    Backing { members, count }
 }
 
 // The same of a state in bytes, which is held to its layout as a whole.
@@ -104,12 +83,4 @@ pub fn read_management(c: Cursor, s: &[u8]) -> ManagementRead
         backers,
         next,
     }
-}
-
-pub fn backing_in(s: &[u8], backers: Listed) -> Backing
-    ensures { λ r. ⌜ Backs r (membersIn (now (s .entry)) backers) ⌝ }
-{
-    let members = check_members(s, backers);
-    let count = at_most_16(backers.count);
-    Backing { members, count }
 }

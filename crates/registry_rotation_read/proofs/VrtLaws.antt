@@ -35,9 +35,10 @@ use Rattle.registry_answer.specs.Answers.{accepts, acceptIf, backerSet, orElse,
 use Rattle.registry_answer.proofs.AnswerLaws.{first-passed, first-failed}
 use Rattle.registry_verification.specs.Sequence.{nextSn}
 use Rattle.registry_members.specs.Updated.{survivors, updatedMembers}
-use Rattle.registry_copy.proofs.Copies.{few-added}
+use Rattle.registry_room.proofs.Counts.{few-added}
 use Rattle.registry_authentication.specs.Issuers.{authenticateIssuer}
-use Rattle.registry_backer.specs.Backers.{isBackerless, enoughReceipts}
+use Rattle.registry_backing.specs.Backings.{enoughReceipts}
+use Rattle.registry_backer.specs.Backers.{isBackerless}
 use Rattle.registry_inception.specs.InceptionFolds.{thresholdFits}
 use Rattle.registry.specs.RegistryFolds.{vrtBackers, vrtAnswer, ingestEvent, rotated, ingestMessage, ingestDecoded}
 use Rattle.registry_rotation_read.specs.Rotations.{rotatedAt, rotationAt}

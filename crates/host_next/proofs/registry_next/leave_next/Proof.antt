@@ -1,5 +1,5 @@
 use denote.Ref.{now}
-use Rattle.registry_copy.specs.NextStates.{nextBytes}
+use Rattle.registry_room.specs.NextStates.{nextBytes}
 use Rattle.host_next.proofs.Calls.{next-left}
 use borrow.Author.Needs.{needs}
 use Rattle.host_next.proofs.registry_next.leave_next.Statement.{statement}

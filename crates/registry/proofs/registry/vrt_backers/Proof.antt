@@ -4,7 +4,7 @@ use lib.ListN.{length}
 use Rattle.events.specs.Members.{view, checkDeltas, checkCurrent}
 use Rattle.registry_answer.specs.Answers.{acceptIf, backerSet, orElse, firstOf}
 use Rattle.registry_error.specs.declared.error.RegistryRejection.the-variants.{TooManyBackers}
-use Rattle.registry_backer.specs.Backers.{enoughReceipts}
+use Rattle.registry_backing.specs.Backings.{enoughReceipts}
 use Rattle.registry_inception.specs.InceptionFolds.{thresholdFits}
 use Rattle.registry.specs.RegistryFolds.{vrtBackers}
 use denote.Ref.{now}

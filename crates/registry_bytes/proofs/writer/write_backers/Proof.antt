@@ -40,14 +40,14 @@ mul-backer c = search needs
 element-copy-out-backer : tie.Need-element-copy-out-backer Inv-loop μ-loop
 element-copy-out-backer c = search needs
 
-mul-write : tie.Need-mul-write Inv-loop μ-loop
-mul-write c = search needs
+mul-write-matter : tie.Need-mul-write-matter Inv-loop μ-loop
+mul-write-matter c = search needs
 
-add-write : tie.Need-add-write Inv-loop μ-loop
-add-write c = search needs
+add-write-matter : tie.Need-add-write-matter Inv-loop μ-loop
+add-write-matter c = search needs
 
-write-requires : tie.Need-write-requires Inv-loop μ-loop
-write-requires c κs = search needs
+write-matter-requires : tie.Need-write-matter-requires Inv-loop μ-loop
+write-matter-requires c κs = search needs
 
 add-i : tie.Need-add-i Inv-loop μ-loop
 add-i c = search needs
@@ -63,7 +63,7 @@ loop-again c =
     let m = s .args .t2 in
     let l = b6 .loop in
     let h : l .i < length (view m) = omega (arith, b6 .before .size .ensures) in
-    (search needs, w .write .kept .1 .0 ∙ l .inv .1, w .write .ensures .1 ∙ rw (l .inv .2, view-at m (full s) (l .i) h) (backer-step _ (view m) (l .i) h (rw length-set (s .pre))))
+    (search needs, w .write-matter .kept .1 .0 ∙ l .inv .1, w .write-matter .ensures .1 ∙ rw (l .inv .2, view-at m (full s) (l .i) h) (backer-step _ (view m) (l .i) h (rw length-set (s .pre))))
 
 same-length : tie.Need-same-length Inv-loop μ-loop
 same-length c = simp length-set at (c .before .loop .inv .1)
@@ -88,9 +88,9 @@ write-backers-spec =
     loop-holds
     mul-backer
     element-copy-out-backer
-    mul-write
-    add-write
-    write-requires
+    mul-write-matter
+    add-write-matter
+    write-matter-requires
     add-i
     loop-less
     loop-again

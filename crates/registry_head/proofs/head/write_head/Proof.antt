@@ -5,26 +5,26 @@ use Rattle.registry_head.proofs.HeadWrites.{head-sets}
 use Rattle.registry_head.proofs.head.write_head.Statement.{statement}
 use Rattle.registry_head.proofs.head.write_head.Tie as tie
 
-write-requires : tie.Need-write-requires
-write-requires c κs = search needs
+write-matter-requires : tie.Need-write-matter-requires
+write-matter-requires c κs = search needs
+
+add-write-matter : tie.Need-add-write-matter
+add-write-matter c = search needs
+
+write-matter-requires-2 : tie.Need-write-matter-requires-2
+write-matter-requires-2 c κs = search needs
 
 add-write : tie.Need-add-write
 add-write c = search needs
 
-write-requires-2 : tie.Need-write-requires-2
-write-requires-2 c κs = search needs
+write-requires : tie.Need-write-requires
+write-requires c κs = search needs
 
-add-write-2 : tie.Need-add-write-2
-add-write-2 c = search needs
+add-write-matter-2 : tie.Need-add-write-matter-2
+add-write-matter-2 c = search needs
 
-write-requires-3 : tie.Need-write-requires-3
-write-requires-3 c κs = search needs
-
-add-write-3 : tie.Need-add-write-3
-add-write-3 c = search needs
-
-write-requires-4 : tie.Need-write-requires-4
-write-requires-4 c κs = search needs
+write-matter-requires-3 : tie.Need-write-matter-requires-3
+write-matter-requires-3 c κs = search needs
 
 same-length : tie.Need-same-length
 same-length c = search needs
@@ -37,19 +37,19 @@ returns c =
     let b14 = b10 .before .before .before .before in
     let s = b14 .before .before .before in
     let a = s .args in
-    b2 .write4 .ensures .1
-    ∙ rw (b6 .write3 .ensures .1, b10 .write2 .ensures .1, b14 .write .ensures .1) (head-sets (now (a .out)) (a .at) (a .a) (a .b) (a .sn) (a .d) (s .pre))
+    b2 .write-matter3 .ensures .1
+    ∙ rw (b6 .write .ensures .1, b10 .write-matter2 .ensures .1, b14 .write-matter .ensures .1) (head-sets (now (a .out)) (a .at) (a .a) (a .b) (a .sn) (a .d) (s .pre))
 
 pub write-head-spec : {M : Type 1} → statement M
 write-head-spec =
     tie.close
     (tie.spec
-    write-requires
+    write-matter-requires
+    add-write-matter
+    write-matter-requires-2
     add-write
-    write-requires-2
-    add-write-2
-    write-requires-3
-    add-write-3
-    write-requires-4
+    write-requires
+    add-write-matter-2
+    write-matter-requires-3
     same-length
     returns)

@@ -9,8 +9,8 @@ use Rattle.registry_signatures.specs.SignatureSections.{signaturesIn}
 use Rattle.registry_error.specs.declared.error.RegistryRejection.the-variants.{TooManyBackers}
 use Rattle.registry_answer.specs.Answers.{backerSet, firstOf}
 use Rattle.registry_answer.proofs.AnswerLaws.{first-passed, first-failed, first-passes, first-refuses, first-last}
-use Rattle.registry_copy.proofs.Copies.{few-left, few-added}
-use Rattle.registry_backer.specs.Backers.{enoughReceipts}
+use Rattle.registry_room.proofs.Counts.{few-left, few-added}
+use Rattle.registry_backing.specs.Backings.{enoughReceipts}
 use Rattle.registry_inception.specs.InceptionFolds.{thresholdFits}
 use Rattle.registry_rotation_read.proofs.VrtLaws.{after, membersOf, current, limit, threshold, receipts, members-first, count-after}
 use borrow.Author.Needs.{needs}

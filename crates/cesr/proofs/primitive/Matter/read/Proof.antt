@@ -24,29 +24,29 @@ shared-slice-read-t6 c = omega (arith, fits (c .before))
 cast-t7 : tie.Need-cast-t7
 cast-t7 c = omega (arith, c .shared-slice-known2 .given (c .before .before .before .before .args .at))
 
-add-word : tie.Need-add-word
-add-word c = omega (arith, fits (c .before))
+add-read-u64 : tie.Need-add-read-u64
+add-read-u64 c = omega (arith, fits (c .before))
 
-word-requires : tie.Need-word-requires
-word-requires c κs = omega (arith, fits (c .before))
+read-u64-requires : tie.Need-read-u64-requires
+read-u64-requires c κs = search needs
 
-add-word-2 : tie.Need-add-word-2
-add-word-2 c = omega (arith, fits (c .before .before))
+add-read-u64-2 : tie.Need-add-read-u64-2
+add-read-u64-2 c = omega (arith, fits (c .before .before))
 
-word-requires-2 : tie.Need-word-requires-2
-word-requires-2 c κs = omega (arith, fits (c .before .before))
+read-u64-requires-2 : tie.Need-read-u64-requires-2
+read-u64-requires-2 c κs = search needs
 
-add-word-3 : tie.Need-add-word-3
-add-word-3 c = omega (arith, fits (c .before .before .before))
+add-read-u64-3 : tie.Need-add-read-u64-3
+add-read-u64-3 c = omega (arith, fits (c .before .before .before))
 
-word-requires-3 : tie.Need-word-requires-3
-word-requires-3 c κs = omega (arith, fits (c .before .before .before))
+read-u64-requires-3 : tie.Need-read-u64-requires-3
+read-u64-requires-3 c κs = search needs
 
-add-word-4 : tie.Need-add-word-4
-add-word-4 c = omega (arith, fits (c .before .before .before .before))
+add-read-u64-4 : tie.Need-add-read-u64-4
+add-read-u64-4 c = omega (arith, fits (c .before .before .before .before))
 
-word-requires-4 : tie.Need-word-requires-4
-word-requires-4 c κs = omega (arith, fits (c .before .before .before .before))
+read-u64-requires-4 : tie.Need-read-u64-requires-4
+read-u64-requires-4 c κs = search needs
 
 returns : tie.Need-returns
 returns c =
@@ -55,7 +55,7 @@ returns c =
     let b3 = b2 .before in
     let b5 = b3 .before .before in
     let a = b5 .before .before .before .args in
-    matter-whole (now (a .s)) (a .at) _ (sym (b5 .before .has-room .ensures) ∙ b5 .if1 .taken) (rw (c .word4 .ensures, b1 .word3 .ensures, b2 .word2 .ensures, b3 .word .ensures))
+    matter-whole (now (a .s)) (a .at) _ (sym (b5 .before .has-room .ensures) ∙ b5 .if1 .taken) (rw (c .read-u644 .ensures, b1 .read-u643 .ensures, b2 .read-u642 .ensures, b3 .read-u64 .ensures))
 
 none-requires : tie.Need-none-requires
 none-requires c κs = search needs
@@ -73,14 +73,14 @@ read-spec =
     has-room-requires
     shared-slice-read-t6
     cast-t7
-    add-word
-    word-requires
-    add-word-2
-    word-requires-2
-    add-word-3
-    word-requires-3
-    add-word-4
-    word-requires-4
+    add-read-u64
+    read-u64-requires
+    add-read-u64-2
+    read-u64-requires-2
+    add-read-u64-3
+    read-u64-requires-3
+    add-read-u64-4
+    read-u64-requires-4
     returns
     none-requires
     returns-2)

@@ -30,18 +30,18 @@ returns c =
     let a = b2 .before .before .before .args in
     rw (sym (matter-none (now (a .s)) (a .at) (sym (b2 .before .has-room .ensures) ∙ not-true _ (b2 .if1 .taken))), sym (c .before .none .ensures)) (c .same .ensures)
 
-add-word : tie.Need-add-word
-add-word c = omega (arith, fits c)
+add-read-u64 : tie.Need-add-read-u64
+add-read-u64 c = omega (arith, fits c)
 
-word-requires : tie.Need-word-requires
-word-requires c κs = omega (arith, fits c)
+read-u64-requires : tie.Need-read-u64-requires
+read-u64-requires c κs = search needs
 
 returns-2 : tie.Need-returns-2
 returns-2 c =
     let b2 = c .before .before in
     let b3 = b2 .before in
     let a = b3 .before .before .before .args in
-    apart-whole (a .self) (now (a .s)) (a .at) (sym (b3 .before .has-room .ensures) ∙ not-false _ (b3 .if1 .left)) (λ e. c .if2 .taken (b2 .word .ensures ∙ e))
+    apart-whole (a .self) (now (a .s)) (a .at) (sym (b3 .before .has-room .ensures) ∙ not-false _ (b3 .if1 .left)) (λ e. c .if2 .taken (b2 .read-u64 .ensures ∙ e))
 
 shared-slice-read-result : tie.Need-shared-slice-read-result
 shared-slice-read-result c = omega (arith, fits (c .before .before .before .before))
@@ -49,23 +49,23 @@ shared-slice-read-result c = omega (arith, fits (c .before .before .before .befo
 cast-result : tie.Need-cast-result
 cast-result c = omega (arith, c .shared-slice-known2 .given (c .before .before .before .before .before .before .before .args .at))
 
-add-word-2 : tie.Need-add-word-2
-add-word-2 c = omega (arith, fits (c .before .before .before .before .before .before))
+add-read-u64-2 : tie.Need-add-read-u64-2
+add-read-u64-2 c = omega (arith, fits (c .before .before .before .before .before .before))
 
-word-requires-2 : tie.Need-word-requires-2
-word-requires-2 c κs = omega (arith, fits (c .before .before .before .before .before .before))
+read-u64-requires-2 : tie.Need-read-u64-requires-2
+read-u64-requires-2 c κs = search needs
 
-add-word-3 : tie.Need-add-word-3
-add-word-3 c = omega (arith, fits (c .before .before .before .before .before .before .before .before))
+add-read-u64-3 : tie.Need-add-read-u64-3
+add-read-u64-3 c = omega (arith, fits (c .before .before .before .before .before .before .before .before))
 
-word-requires-3 : tie.Need-word-requires-3
-word-requires-3 c κs = omega (arith, fits (c .before .before .before .before .before .before .before .before))
+read-u64-requires-3 : tie.Need-read-u64-requires-3
+read-u64-requires-3 c κs = search needs
 
-add-word-4 : tie.Need-add-word-4
-add-word-4 c = omega (arith, fits (c .before .before .before .before .before .before .before .before .before .before))
+add-read-u64-4 : tie.Need-add-read-u64-4
+add-read-u64-4 c = omega (arith, fits (c .before .before .before .before .before .before .before .before .before .before))
 
-word-requires-4 : tie.Need-word-requires-4
-word-requires-4 c κs = omega (arith, fits (c .before .before .before .before .before .before .before .before .before .before))
+read-u64-requires-4 : tie.Need-read-u64-requires-4
+read-u64-requires-4 c κs = search needs
 
 returns-3 : tie.Need-returns-3
 returns-3 c =
@@ -75,7 +75,7 @@ returns-3 c =
     let b11 = b5 .before .before .before .before .before .before in
     let b12 = b11 .before in
     let a = b12 .before .before .before .args in
-    rw (b1 .word4 .ensures, b3 .word3 .ensures, b5 .word2 .ensures, b11 .word .ensures) (same-whole (a .self) (now (a .s)) (a .at) (sym (b12 .before .has-room .ensures) ∙ not-false _ (b12 .if1 .left)))
+    rw (b1 .read-u644 .ensures, b3 .read-u643 .ensures, b5 .read-u642 .ensures, b11 .read-u64 .ensures) (same-whole (a .self) (now (a .s)) (a .at) (sym (b12 .before .has-room .ensures) ∙ not-false _ (b12 .if1 .left)))
 
 pub same-at-spec : {M : Type 1} → statement M
 same-at-spec =
@@ -85,15 +85,15 @@ same-at-spec =
     none-requires
     same-requires
     returns
-    add-word
-    word-requires
+    add-read-u64
+    read-u64-requires
     returns-2
     shared-slice-read-result
     cast-result
-    add-word-2
-    word-requires-2
-    add-word-3
-    word-requires-3
-    add-word-4
-    word-requires-4
+    add-read-u64-2
+    read-u64-requires-2
+    add-read-u64-3
+    read-u64-requires-3
+    add-read-u64-4
+    read-u64-requires-4
     returns-3)

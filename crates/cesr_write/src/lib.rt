@@ -1,0 +1,2 @@
+// Primitives, stored in lent bytes (docs/RULES.md, "Bytes").
+pub mod matter;
