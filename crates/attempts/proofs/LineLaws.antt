@@ -9,13 +9,13 @@ use native.Mathlib.Omega.{arith}
 use borrow.Author.Tests.{ltb-true}
 use lib.Dec.{ltb, leb}
 use Rattle.registry_error.specs.Errors.{answerNumber, answerLetter}
-use Rattle.registry_error.specs.declared.error.Answer.{Answer}
+use Rattle.registry_error.specs.declared.Answer.{Answer}
 use Rattle.ledger_step.specs.Ledgers.{Ledger}
 use Rattle.ledger_step.specs.Steps.{stepOf}
 use Rattle.ledger_text.specs.Lines.{lineBytes}
 use Rattle.ledger_frames.specs.Runs.{tookOf}
-use Rattle.ledger_frames.specs.declared.framing.Run.{Run}
-use Rattle.ledger_frames.specs.declared.framing.Size.{Size}
+use Rattle.ledger_frames.specs.declared.Run.{Run}
+use Rattle.ledger_frames.specs.declared.Size.{Size}
 use Rattle.attempts.specs.Answering.{lineOf}
 
 pub line-is : (position n z : ℕ) (x : Answer) (l : Ledger) (a : List ℕ) → n ≡ answerNumber x → z ≡ answerLetter x → x ≡ stepOf l a .answer → lineBytes position n z ≡ lineOf l position a

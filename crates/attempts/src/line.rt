@@ -1,8 +1,8 @@
 // What is printed of an attempt, and the ledger behind it (docs/RULES.md, "What the program prints").
 use ledger::ledger::apply;
-use ledger_table::table::Ledger;
+use ledger_table::Ledger;
 use ledger_text::text::write_line;
-use registry_error::error::Answer;
+use registry_error::Answer;
 ghost use mathlib.Core.Path.{_≡_};
 ghost use Prim.Native.Nat.{_≤_};
 ghost use lib.ListN.{length};

@@ -3,10 +3,10 @@
 // comes to and how a line is written are functions with contracts; here they are only called, between reading and writing.
 mod line;
 
-use ledger_frames::framing::Run;
-use ledger_frames::framing::Size;
+use ledger_frames::Run;
+use ledger_frames::Size;
 use ledger_frames::framing::read_size;
-use ledger_table::table::Ledger;
+use ledger_table::Ledger;
 use ledger_text::text::write_last;
 use libc::STDIN_FILENO;
 use libc::STDOUT_FILENO;

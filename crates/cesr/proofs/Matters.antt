@@ -17,9 +17,9 @@ use Rattle.laws.specs.Number.{number, numberAt, digits}
 use Rattle.laws.specs.Room.{room}
 use Rattle.laws.proofs.Number.{length-digits, whole-number}
 use Rattle.laws.proofs.Tests.{and-left, and-right}
-use Rattle.cesr.specs.declared.primitive.Matter.{Matter}
-use Rattle.cesr.specs.declared.primitive.Said.{Said}
-use Rattle.cesr.specs.declared.primitive.BasicPrefix.{BasicPrefix}
+use Rattle.cesr.specs.declared.Matter.{Matter}
+use Rattle.cesr.specs.declared.Said.{Said}
+use Rattle.cesr.specs.declared.BasicPrefix.{BasicPrefix}
 use Rattle.cesr.specs.Primitives.{none, wordBytes, matterBytes, readMatter, eqMatter, eqSaid, eqPrefix}
 
 pub made : {a b c d e a' b' c' d' e' : ℕ} → a ≡ a' → b ≡ b' → c ≡ c' → d ≡ d' → e ≡ e' → _≡_ {A = Matter} (record { code = a; w0 = b; w1 = c; w2 = d; w3 = e }) (record { code = a'; w0 = b'; w1 = c'; w2 = d'; w3 = e' })

@@ -1,26 +1,11 @@
 // A digest or a prefix: a code letter and 32 bytes (docs/RULES.md, "Bytes").
+use crate::BasicPrefix;
+use crate::Matter;
+use crate::Said;
 use cesr_number::number::has_room;
 use cesr_number::number::read_u64;
 ghost use mathlib.Core.Path.{_≡_};
 ghost use Rattle.cesr.specs.Primitives.{none, readMatter, saidAt, eqMatter, eqSaid, eqPrefix, isBasic, isSaid};
-
-// The material of a primitive, whatever its role: the code letter, and the 32 bytes as four big-endian words. The letter has a word too: with a gap behind a single byte the compiler makes slow copies, and a lent state would have bits that mean nothing.
-#[repr(C)]
-pub struct Matter {
-    pub code: u64,
-    pub w0: u64,
-    pub w1: u64,
-    pub w2: u64,
-    pub w3: u64,
-}
-
-// A digest that names its own content.
-#[repr(C)]
-pub struct Said(pub Matter);
-
-// A prefix that is a public key.
-#[repr(C)]
-pub struct BasicPrefix(pub Matter);
 
 impl Matter {
     // What stands where there is no primitive: no code letter is 0.

@@ -15,7 +15,7 @@ use lib.Dec.{eqb, ltb, leb, lit<}
 use lib.ListN.{length}
 use Rattle.laws.specs.Number.{number, digits}
 use Rattle.laws.proofs.Number.{number-split, digits-split, digits-rest, read-whole, read-none}
-use Rattle.cesr_sn.specs.declared.number.Sn.{Sn}
+use Rattle.cesr_sn.specs.declared.Sn.{Sn}
 use Rattle.cesr_sn.specs.Numbers.{value, snOf, readSn, snBytes}
 
 -- both words are words

@@ -2,7 +2,7 @@
 use Prim.Native.Nat.{ℕ, _+_, _*_, _/_, _%_, _^_}
 use mathlib.Core.List.{List}
 use Rattle.laws.specs.Number.{numberAt, digits}
-use Rattle.cesr_sn.specs.declared.number.Sn.{Sn}
+use Rattle.cesr_sn.specs.declared.Sn.{Sn}
 
 -- the number that the two words stand for
 unfoldable pub value : Sn → ℕ

@@ -1,4 +1,5 @@
 // The sequence number: 128 bits in two words (docs/RULES.md, "Bytes").
+use crate::Sn;
 use cesr_number::number::has_room;
 use cesr_number::number::read_u64;
 use cesr_number::number::write_u64;
@@ -7,13 +8,6 @@ ghost use Prim.Native.Nat.{_+_, _-_, _^_};
 ghost use lib.Dec.{eqb, ltb};
 ghost use Rattle.laws.specs.Room.{room, put};
 ghost use Rattle.cesr_sn.specs.Numbers.{value, snOf, readSn, snBytes};
-
-// A sequence number of 128 bits.
-#[repr(C)]
-pub struct Sn {
-    pub hi: u64,
-    pub lo: u64,
-}
 
 impl Sn {
     pub fn same(self, other: Sn) -> bool

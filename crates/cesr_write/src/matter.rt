@@ -1,5 +1,5 @@
 // A primitive, stored in lent bytes: from its value, or from where it stands. All its 33 bytes are stored or none, and the answer says which.
-use cesr::primitive::Matter;
+use cesr::Matter;
 use cesr_number::number::has_room;
 use cesr_number::number::read_u64;
 use cesr_number::number::write_u64;

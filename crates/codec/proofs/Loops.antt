@@ -17,13 +17,13 @@ use native.Mathlib.Numerals.{add-one}
 use borrow.Author.Tests.{lt-ltb, leb-true}
 use lib.Dec.{leb}
 use lib.ListN.{length, take, set, length-append}
-use Rattle.cesr.specs.declared.primitive.BasicPrefix.{BasicPrefix}
-use Rattle.events.specs.declared.member_set.Members.{Members}
+use Rattle.cesr.specs.declared.BasicPrefix.{BasicPrefix}
+use Rattle.events.specs.declared.Members.{Members}
 use Rattle.events.specs.Members.{view}
-use Rattle.events.proofs.Members.{view-push}
+use Rattle.events.proofs.MemberLaws.{view-push}
 use Rattle.events_tel.specs.TelEvents.{membersIn}
 use Rattle.events_tel.specs.Configs.{hasRoom, pushed}
-use Rattle.codec_cursor.specs.declared.cursor.Cursor.{Cursor}
+use Rattle.codec_cursor.specs.declared.Cursor.{Cursor}
 use Rattle.codec_cursor.specs.Readers.{Read, Reader, stopped, need, readByte, readPrefix, times, countUpTo, section}
 use Rattle.codec.specs.Events.{readPrefixes}
 

@@ -4,22 +4,22 @@ use mathlib.Core.List.{List}
 use mathlib.Core.Bool.{Bool, cond, _&&_}
 use lib.Dec.{leb, ltb, eqb}
 use Rattle.cesr_sn.specs.Numbers.{value}
-use Rattle.cesr_sn.specs.declared.number.Sn.{Sn}
-use Rattle.cesr.specs.declared.primitive.Matter.{Matter}
-use Rattle.cesr.specs.declared.primitive.Said.{Said}
-use Rattle.cesr.specs.declared.primitive.BasicPrefix.{BasicPrefix}
+use Rattle.cesr_sn.specs.declared.Sn.{Sn}
+use Rattle.cesr.specs.declared.Matter.{Matter}
+use Rattle.cesr.specs.declared.Said.{Said}
+use Rattle.cesr.specs.declared.BasicPrefix.{BasicPrefix}
 use Rattle.events_tel.specs.Configs.{viewConfigs}
 use Rattle.events_seal.specs.Identifiers.{identifierOf}
 use Rattle.events.specs.Members.{view}
 use Rattle.events_tel.specs.TelEvents.{Event, membersIn}
 use Rattle.events_tel.specs.TelEvents.Event.{vcp, vrt, iss, rev, bis, brv}
-use Rattle.events_seal.specs.declared.seal.Seal.{Seal}
-use Rattle.events_seal.specs.declared.seal.Seal.the-variants.{Digest, Root, Source, Event as EventSeal, Last, Back, Kind, Opaque}
-use Rattle.codec.specs.declared.section.CountRead.{CountRead}
-use Rattle.codec.specs.declared.section.ConfigsRead.{ConfigsRead}
-use Rattle.codec.specs.declared.section.PrefixesRead.{PrefixesRead}
-use Rattle.codec.specs.declared.section.ListedRead.{ListedRead}
-use Rattle.codec.specs.declared.section.ToadRead.{ToadRead}
+use Rattle.events_seal.specs.declared.Seal.{Seal}
+use Rattle.events_seal.specs.declared.Seal.the-variants.{Digest, Root, Source, Event as EventSeal, Last, Back, Kind, Opaque}
+use Rattle.codec.specs.declared.CountRead.{CountRead}
+use Rattle.codec.specs.declared.ConfigsRead.{ConfigsRead}
+use Rattle.codec.specs.declared.PrefixesRead.{PrefixesRead}
+use Rattle.codec.specs.declared.ListedRead.{ListedRead}
+use Rattle.codec.specs.declared.ToadRead.{ToadRead}
 use Rattle.codec_cursor.specs.Readers.{Read, Reader, need, readByte, readByteIf, readNumber, readIdentifier, readSaid, readPrefix, mapped, both, after, ended, section}
 
 -- a config byte is 1 to 6

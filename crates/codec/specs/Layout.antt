@@ -7,17 +7,17 @@ use lib.ListN.{length}
 use Rattle.laws.specs.Number.{digits}
 use Rattle.cesr_sn.specs.Numbers.{snBytes}
 use Rattle.cesr.specs.Primitives.{matterBytes, isBasic, isSaid}
-use Rattle.cesr_sn.specs.declared.number.Sn.{Sn}
-use Rattle.cesr.specs.declared.primitive.Matter.{Matter}
-use Rattle.cesr.specs.declared.primitive.Said.{Said}
-use Rattle.cesr.specs.declared.primitive.BasicPrefix.{BasicPrefix}
+use Rattle.cesr_sn.specs.declared.Sn.{Sn}
+use Rattle.cesr.specs.declared.Matter.{Matter}
+use Rattle.cesr.specs.declared.Said.{Said}
+use Rattle.cesr.specs.declared.BasicPrefix.{BasicPrefix}
 use Rattle.events_seal.specs.Identifiers.{matterOf}
-use Rattle.events_seal.specs.declared.identifier.Identifier.{Identifier}
-use Rattle.events_seal.specs.declared.identifier.Identifier.the-variants.{Basic, SelfAddressing}
+use Rattle.events_seal.specs.declared.Identifier.{Identifier}
+use Rattle.events_seal.specs.declared.Identifier.the-variants.{Basic, SelfAddressing}
 use Rattle.events_tel.specs.TelEvents.{Event}
 use Rattle.events_tel.specs.TelEvents.Event.{vcp, vrt, iss, rev, bis, brv}
-use Rattle.events_seal.specs.declared.seal.Seal.{Seal}
-use Rattle.events_seal.specs.declared.seal.Seal.the-variants.{Digest, Root, Source, Event as EventSeal, Last, Back, Kind, Opaque}
+use Rattle.events_seal.specs.declared.Seal.{Seal}
+use Rattle.events_seal.specs.declared.Seal.the-variants.{Digest, Root, Source, Event as EventSeal, Last, Back, Kind, Opaque}
 use Rattle.codec_cursor.specs.Readers.{isIdentifier}
 use Rattle.codec.specs.Events.{isConfig}
 

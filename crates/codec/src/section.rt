@@ -1,44 +1,24 @@
 // The sections that a layout is made of: a count byte, then that many elements (docs/RULES.md, "Bytes").
-use cesr::primitive::BasicPrefix;
-use cesr::primitive::Matter;
-use cesr_sn::number::Sn;
-use codec_cursor::cursor::ByteRead;
-use codec_cursor::cursor::Cursor;
-use events::member_set::Members;
-use events_tel::config::Configs;
-use events_tel::tel::Listed;
-use events_toad::toad::Toad;
+use crate::ConfigsRead;
+use crate::CountRead;
+use crate::ListedRead;
+use crate::PrefixesRead;
+use crate::ToadRead;
+use cesr::BasicPrefix;
+use cesr::Matter;
+use cesr_sn::Sn;
+use codec_cursor::ByteRead;
+use codec_cursor::Cursor;
+use events::Members;
+use events_tel::Configs;
+use events_tel::Listed;
+use events_toad::Toad;
 ghost use mathlib.Core.Path.{_≡_};
 ghost use Prim.Native.Nat.{_≤_, min};
 ghost use Rattle.events.specs.Members.{view};
 ghost use Rattle.events_tel.specs.TelEvents.{membersIn};
 ghost use Rattle.codec_cursor.specs.Readers.{countUpTo, section, times, readPrefix, viewByte};
 ghost use Rattle.codec.specs.Events.{readConfig, readConfigs, readPrefixes, readToad, viewCountRead, viewConfigsRead, viewPrefixesRead, viewListedRead, viewToadRead};
-
-pub struct CountRead {
-    pub value: usize,
-    pub next: Cursor,
-}
-
-pub struct ConfigsRead {
-    pub value: Configs,
-    pub next: Cursor,
-}
-
-pub struct PrefixesRead {
-    pub value: Members,
-    pub next: Cursor,
-}
-
-pub struct ListedRead {
-    pub value: Listed,
-    pub next: Cursor,
-}
-
-pub struct ToadRead {
-    pub value: Toad,
-    pub next: Cursor,
-}
 
 // The count byte of a section of at most limit elements. Where it is not there or above the limit, it counts none.
 pub fn count_up_to(c: Cursor, s: &[u8], limit: u8) -> CountRead

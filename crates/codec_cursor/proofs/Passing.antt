@@ -11,7 +11,7 @@ use Rattle.laws.specs.Room.{room}
 use Rattle.laws.proofs.Number.{whole-number}
 use Rattle.laws.proofs.Room.{room-true}
 use Rattle.cesr.specs.Primitives.{readMatter}
-use Rattle.codec_cursor.specs.declared.cursor.Cursor.{Cursor}
+use Rattle.codec_cursor.specs.declared.Cursor.{Cursor}
 use Rattle.codec_cursor.specs.Readers.{advanced, need, stopped, letterOnly}
 
 -- the letter of a primitive whose bytes are all there

@@ -7,17 +7,17 @@ use Rattle.laws.specs.Number.{numberAt}
 use Rattle.laws.specs.Room.{room}
 use Rattle.cesr_sn.specs.Numbers.{readSn}
 use Rattle.cesr.specs.Primitives.{readMatter, isBasic, isSaid}
-use Rattle.cesr_sn.specs.declared.number.Sn.{Sn}
-use Rattle.cesr.specs.declared.primitive.Matter.{Matter}
-use Rattle.cesr.specs.declared.primitive.Said.{Said}
-use Rattle.cesr.specs.declared.primitive.BasicPrefix.{BasicPrefix}
-use Rattle.codec_cursor.specs.declared.cursor.Cursor.{Cursor}
-use Rattle.codec_cursor.specs.declared.cursor.ByteRead.{ByteRead}
-use Rattle.codec_cursor.specs.declared.cursor.U32Read.{U32Read}
-use Rattle.codec_cursor.specs.declared.cursor.SnRead.{SnRead}
-use Rattle.codec_cursor.specs.declared.cursor.SaidRead.{SaidRead}
-use Rattle.codec_cursor.specs.declared.cursor.PrefixRead.{PrefixRead}
-use Rattle.codec_cursor.specs.declared.cursor.MatterRead.{MatterRead}
+use Rattle.cesr_sn.specs.declared.Sn.{Sn}
+use Rattle.cesr.specs.declared.Matter.{Matter}
+use Rattle.cesr.specs.declared.Said.{Said}
+use Rattle.cesr.specs.declared.BasicPrefix.{BasicPrefix}
+use Rattle.codec_cursor.specs.declared.Cursor.{Cursor}
+use Rattle.codec_cursor.specs.declared.ByteRead.{ByteRead}
+use Rattle.codec_cursor.specs.declared.U32Read.{U32Read}
+use Rattle.codec_cursor.specs.declared.SnRead.{SnRead}
+use Rattle.codec_cursor.specs.declared.SaidRead.{SaidRead}
+use Rattle.codec_cursor.specs.declared.PrefixRead.{PrefixRead}
+use Rattle.codec_cursor.specs.declared.MatterRead.{MatterRead}
 
 -- at the first byte
 abbrev pub starting : Cursor

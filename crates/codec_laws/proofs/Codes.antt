@@ -19,12 +19,12 @@ use Rattle.laws.proofs.Number.{length-digits, number-below, number-at, digits-n
 use Rattle.laws.proofs.Tests.{and-left, and-right}
 use Rattle.cesr_sn.specs.Numbers.{value, snOf, readSn, snBytes}
 use Rattle.cesr.specs.Primitives.{matterBytes, readMatter, isBasic, isSaid}
-use Rattle.cesr_sn.specs.declared.number.Sn.{Sn}
-use Rattle.cesr.specs.declared.primitive.Matter.{Matter}
+use Rattle.cesr_sn.specs.declared.Sn.{Sn}
+use Rattle.cesr.specs.declared.Matter.{Matter}
 use Rattle.cesr_sn.proofs.Words.{words-value, value-words, snOf-good, value-fits}
 use Rattle.cesr.proofs.Matters.{length-matter}
 use Rattle.codec_laws.proofs.Round.{Filled, matter-at, matter-bytes, read-filled}
-use Rattle.codec_cursor.specs.declared.cursor.Cursor.{Cursor}
+use Rattle.codec_cursor.specs.declared.Cursor.{Cursor}
 use Rattle.codec.specs.Layout.{byteBytes, saidBytes, prefixBytes, isMatter, goodSn, goodToad, goodSaid, goodPrefix, goodIdentifier}
 use Rattle.codec_cursor.specs.Readers.{placed, Read, Reader, advanced, counted, mapped, both, after, ended, readByte, readByteIf, readQuad, readNumber, readIf, readSaid, readPrefix, readIdentifier, isIdentifier, saidOf, prefixOf}
 use Rattle.codec_laws.proofs.Stands.{Stands, stands-join, stands-first, stands-rest, stands-fits, stands-split, stands-place, went, goes-on, passed, stays}

@@ -10,14 +10,14 @@ use lib.ListN.{length}
 use Rattle.laws.specs.Number.{digits, Bytes}
 use Rattle.cesr_sn.specs.Numbers.{snBytes}
 use Rattle.cesr.specs.Primitives.{matterBytes}
-use Rattle.cesr_sn.specs.declared.number.Sn.{Sn}
-use Rattle.cesr.specs.declared.primitive.Matter.{Matter}
-use Rattle.cesr.specs.declared.primitive.Said.{Said}
-use Rattle.cesr.specs.declared.primitive.BasicPrefix.{BasicPrefix}
+use Rattle.cesr_sn.specs.declared.Sn.{Sn}
+use Rattle.cesr.specs.declared.Matter.{Matter}
+use Rattle.cesr.specs.declared.Said.{Said}
+use Rattle.cesr.specs.declared.BasicPrefix.{BasicPrefix}
 use Rattle.events_tel.specs.TelEvents.{Event}
 use Rattle.events_tel.specs.TelEvents.Event.{vcp, vrt, iss, rev, bis, brv}
-use Rattle.events_seal.specs.declared.seal.Seal.{Seal}
-use Rattle.codec_cursor.specs.declared.cursor.Cursor.{Cursor}
+use Rattle.events_seal.specs.declared.Seal.{Seal}
+use Rattle.codec_cursor.specs.declared.Cursor.{Cursor}
 use Rattle.codec.specs.Layout.{joined, sectionBytes, byteBytes, saidBytes, prefixBytes, sealBytes, asItIs, sixSections, sectionsOf, kindByte, eventBytes, goodSaid, goodIdentifier, goodSn, goodToad, goodConfigs, goodPrefixes, goodSeal, goodEvent}
 use Rattle.codec_cursor.specs.Readers.{placed, Read, Reader, need, mapped, both, after, ended, readByte, readNumber, readSaid, readIdentifier}
 use Rattle.codec.specs.Events.{readToad, readConfigs, readPrefixes, readSeal, vcpOf, vrtOf, issOf, revOf, bisOf, brvOf, readVcp, readVrt, readIss, readRev, readBis, readBrv, readKind, readEvent}

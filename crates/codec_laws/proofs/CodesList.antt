@@ -11,7 +11,7 @@ use lib.Dec.{eqb, leb}
 use lib.ListN.{length, length-append}
 use Rattle.laws.specs.Number.{Bytes}
 use Rattle.laws.proofs.Tests.{and-left, and-right}
-use Rattle.codec_cursor.specs.declared.cursor.Cursor.{Cursor}
+use Rattle.codec_cursor.specs.declared.Cursor.{Cursor}
 use Rattle.codec.specs.Layout.{joined, sectionBytes, all}
 use Rattle.codec_cursor.specs.Readers.{placed, Reader, need, readByte, times, countUpTo, section}
 use Rattle.codec_laws.proofs.Stands.{Stands, stands-join, stands-first, stands-rest, passed, stays}

@@ -6,7 +6,7 @@ use mathlib.Core.Bool.{Bool, true, false, cond, _||_}
 use borrow.Author.Tests.{eqb-true}
 use lib.Dec.{eqb}
 use Rattle.laws.specs.Number.{Bytes}
-use Rattle.codec_cursor.specs.declared.cursor.Cursor.{Cursor}
+use Rattle.codec_cursor.specs.declared.Cursor.{Cursor}
 use Rattle.codec_cursor.specs.Readers.{Read, need, readByte}
 use Rattle.codec_laws.proofs.Stands.{Stands, Passed, passed, stays}
 use Rattle.codec_laws.proofs.Codes.{Told, codes-byte}

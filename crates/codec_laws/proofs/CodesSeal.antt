@@ -12,17 +12,17 @@ use Rattle.laws.specs.Number.{digits, Bytes}
 use Rattle.laws.proofs.Tests.{and-left, and-right}
 use Rattle.cesr_sn.specs.Numbers.{value, snOf, snBytes}
 use Rattle.cesr.specs.Primitives.{matterBytes, isBasic, isSaid}
-use Rattle.cesr_sn.specs.declared.number.Sn.{Sn}
-use Rattle.cesr.specs.declared.primitive.Matter.{Matter}
-use Rattle.cesr.specs.declared.primitive.Said.{Said}
+use Rattle.cesr_sn.specs.declared.Sn.{Sn}
+use Rattle.cesr.specs.declared.Matter.{Matter}
+use Rattle.cesr.specs.declared.Said.{Said}
 use Rattle.cesr_sn.proofs.Words.{value-words, snOf-good}
 use Rattle.events_seal.specs.Identifiers.{matterOf, identifierOf}
 use Rattle.events_seal.proofs.Identifiers.{matter-identifier}
-use Rattle.events_seal.specs.declared.identifier.Identifier.{Identifier}
-use Rattle.events_seal.specs.declared.identifier.Identifier.the-variants.{Basic, SelfAddressing}
-use Rattle.events_seal.specs.declared.seal.Seal.{Seal}
-use Rattle.events_seal.specs.declared.seal.Seal.the-variants.{Digest, Root, Source, Event as EventSeal, Last, Back, Kind, Opaque}
-use Rattle.codec_cursor.specs.declared.cursor.Cursor.{Cursor}
+use Rattle.events_seal.specs.declared.Identifier.{Identifier}
+use Rattle.events_seal.specs.declared.Identifier.the-variants.{Basic, SelfAddressing}
+use Rattle.events_seal.specs.declared.Seal.{Seal}
+use Rattle.events_seal.specs.declared.Seal.the-variants.{Digest, Root, Source, Event as EventSeal, Last, Back, Kind, Opaque}
+use Rattle.codec_cursor.specs.declared.Cursor.{Cursor}
 use Rattle.codec.specs.Layout.{byteBytes, saidBytes, prefixBytes, sectionBytes, isMatter, goodSn, goodToad, goodSaid, goodPrefix, goodIdentifier, goodConfigs, goodPrefixes, sealBytes, goodIdentity, goodSeal}
 use Rattle.codec_cursor.specs.Readers.{placed, both, readByte, readByteIf, readNumber, readSaid, readIdentifier, isIdentifier, readPrefix}
 use Rattle.codec.specs.Events.{isConfig, readConfig, readToad, readConfigs, readPrefixes, sealOf, eventSeal, readEventSeal, readOtherSeal, readSeal}

@@ -15,8 +15,8 @@ use Rattle.laws.specs.Number.{number, numberAt, digits, Bytes}
 use Rattle.laws.specs.Room.{room, put}
 use Rattle.laws.proofs.Number.{number-at, number-below, digits-number, length-digits, at-put, put-at}
 use Rattle.laws.proofs.Room.{room-true, room-false, true-room, put-sets, put-none, stored-same}
-use Rattle.cesr_sn.specs.declared.number.Sn.{Sn}
-use Rattle.cesr.specs.declared.primitive.Matter.{Matter}
+use Rattle.cesr_sn.specs.declared.Sn.{Sn}
+use Rattle.cesr.specs.declared.Matter.{Matter}
 use Rattle.cesr_sn.specs.Numbers.{value, snOf, readSn, snBytes}
 use Rattle.cesr.specs.Primitives.{none, matterBytes, readMatter, eqMatter}
 use Rattle.cesr_sn.proofs.Words.{Fit, words-value, value-words, value-fits}

@@ -9,7 +9,7 @@ use lib.Seq.{take-length, take-add, drop-drop, take-at, drop-at, length-take-le}
 use Rattle.laws.specs.Room.{room}
 use Rattle.laws.proofs.Room.{room-true, true-room}
 use Rattle.laws.proofs.Tests.{and-left, and-right}
-use Rattle.codec_cursor.specs.declared.cursor.Cursor.{Cursor}
+use Rattle.codec_cursor.specs.declared.Cursor.{Cursor}
 use Rattle.codec_cursor.specs.Readers.{placed, stopped, advanced, need}
 
 -- bs are the bytes of s from at on

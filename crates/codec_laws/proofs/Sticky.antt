@@ -11,8 +11,8 @@ use mathlib.Core.Path.{_≡_}
 use mathlib.Core.Bool.{Bool, true, false, cond}
 use mathlib.Core.List.{List}
 use lib.Dec.{eqb}
-use Rattle.cesr.specs.declared.primitive.Matter.{Matter}
-use Rattle.codec_cursor.specs.declared.cursor.Cursor.{Cursor}
+use Rattle.cesr.specs.declared.Matter.{Matter}
+use Rattle.codec_cursor.specs.declared.Cursor.{Cursor}
 use Rattle.codec_cursor.specs.Readers.{Read, Reader, readByte, readQuad, readNumber, readIf, readIdentifier, saidOf, readSaid, prefixOf, readPrefix, readByteIf, counted, mapped, both, after, ended, times, countUpTo, section}
 use Rattle.codec.specs.Events.{isConfig, readConfig, readToad, eventSeal, readEventSeal, readOtherSeal, readSeal, readConfigs, readPrefixes}
 use Rattle.codec_laws.proofs.Stands.{went, passed}

@@ -1,19 +1,15 @@
 // A seal: its kind byte, and of an event seal its identifier, number and digest (docs/RULES.md, "Bytes").
+use crate::SealRead;
 use codec::section::count_up_to;
-use codec_cursor::cursor::Cursor;
-use events_seal::identifier::Identifier;
-use events_seal::seal::Seal;
+use codec_cursor::Cursor;
+use events_seal::Identifier;
+use events_seal::Seal;
 ghost use mathlib.Core.Path.{_≡_};
 ghost use mathlib.Core.Bool.{_&&_};
 ghost use lib.Dec.{leb};
 ghost use Rattle.codec_cursor.specs.Readers.{section};
 ghost use Rattle.codec.specs.Events.{sealOf, readEventSeal, readOtherSeal, readSeal};
 ghost use Rattle.codec_seal.specs.SealReads.{viewSealRead};
-
-pub struct SealRead {
-    pub value: Seal,
-    pub next: Cursor,
-}
 
 // A seal that is no event seal: no rule reads its content, and it has no bytes but its kind.
 fn seal_of(kind: u8) -> Seal

@@ -1,13 +1,13 @@
 // An event: its kind byte, then six sections by kind (docs/RULES.md, "Bytes"). The sections of a registry's events are read one crate below.
-use codec_cursor::cursor::Cursor;
+use codec_cursor::Cursor;
 use codec_seal::seal::read_seal;
-use codec_tel_registry::tel::EventRead;
+use codec_tel_registry::EventRead;
 use codec_tel_registry::tel::blank;
 use codec_tel_registry::tel::read_vcp;
 use codec_tel_registry::tel::read_vrt;
-use events_seal::seal::Seal;
-use events_tel::tel::Kind;
-use events_tel::tel::TelEvent;
+use events_seal::Seal;
+use events_tel::Kind;
+use events_tel::TelEvent;
 ghost use mathlib.Core.Path.{_≡_};
 ghost use mathlib.Core.Bool.{cond};
 ghost use Rattle.codec_cursor.specs.Readers.{counted};

@@ -3,7 +3,7 @@ use Prim.Native.Nat.{ℕ}
 use mathlib.Core.List.{List}
 use Rattle.events_tel.specs.TelEvents.{Event, viewEvent}
 use Rattle.codec_cursor.specs.Readers.{Read}
-use Rattle.codec_tel_registry.specs.declared.tel.EventRead.{EventRead}
+use Rattle.codec_tel_registry.specs.declared.EventRead.{EventRead}
 
 abbrev pub viewEventRead : List ℕ → EventRead → Read Event
 viewEventRead s r = record { value = viewEvent s (r .value); next = r .next }

@@ -1,24 +1,19 @@
 // The events of a registry, behind the kind byte: six sections by kind (docs/RULES.md, "Bytes").
-use cesr_sn::number::Sn;
+use crate::EventRead;
+use cesr_sn::Sn;
 use codec::section::pass_prefixes;
 use codec::section::read_configs;
 use codec::section::read_toad;
-use codec_cursor::cursor::Cursor;
-use events_seal::seal::Seal;
-use events_tel::config::Configs;
-use events_tel::tel::Kind;
-use events_tel::tel::Listed;
-use events_tel::tel::TelEvent;
-use events_toad::toad::Toad;
+use codec_cursor::Cursor;
+use events_seal::Seal;
+use events_tel::Configs;
+use events_tel::Kind;
+use events_tel::Listed;
+use events_tel::TelEvent;
+use events_toad::Toad;
 ghost use mathlib.Core.Path.{_≡_};
 ghost use Rattle.codec_tel_registry.specs.EventReads.{viewEventRead};
 ghost use Rattle.codec.specs.Events.{readVcp, readVrt};
-
-// An event that was read, of a registry or of a credential.
-pub struct EventRead {
-    pub value: TelEvent,
-    pub next: Cursor,
-}
 
 // An event with its other fields blank. A kind that carries no seal has Digest there.
 pub fn blank(kind: Kind, said: usize, seal: Seal) -> TelEvent

@@ -4,7 +4,7 @@ mod tally;
 
 use libc::STDIN_FILENO;
 use libc::STDOUT_FILENO;
-use registry_wire::attempt::Attempt;
+use registry_wire::Attempt;
 use tally::Finding;
 use tally::Tally;
 ghost use mathlib.Core.Path.{_≡_};

@@ -6,13 +6,13 @@ use mathlib.Core.List.{List, [], _∷_, _++_}
 use lib.ListN.{length, getD, take}
 use lib.Dec.{ltb}
 use Rattle.laws.specs.First.{first}
-use Rattle.cesr.specs.declared.primitive.BasicPrefix.{BasicPrefix}
+use Rattle.cesr.specs.declared.BasicPrefix.{BasicPrefix}
 use Rattle.cesr.specs.Primitives.{none, eqPrefix}
-use Rattle.events.specs.declared.member_set.Members.{Members}
-use Rattle.events.specs.declared.member_set.Rule.{Rule}
-use Rattle.events.specs.declared.member_set.Rule.the-variants.{DuplicateBacker, DuplicateCut, DuplicateAddition, CutAddOverlap, RemovalNotCurrent, AdditionAlreadyPresent}
-use Rattle.events.specs.declared.member_set.Membership.{Membership}
-use Rattle.events.specs.declared.member_set.Membership.the-variants.{Sound, Broken}
+use Rattle.events.specs.declared.Members.{Members}
+use Rattle.events.specs.declared.Rule.{Rule}
+use Rattle.events.specs.declared.Rule.the-variants.{DuplicateBacker, DuplicateCut, DuplicateAddition, CutAddOverlap, RemovalNotCurrent, AdditionAlreadyPresent}
+use Rattle.events.specs.declared.Membership.{Membership}
+use Rattle.events.specs.declared.Membership.the-variants.{Sound, Broken}
 
 -- the members, as a list: the array's elements before the count
 unfoldable pub view : Members → List BasicPrefix

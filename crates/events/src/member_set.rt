@@ -1,6 +1,9 @@
 // Lists of at most 16 backers by value, and the answers of the rules on them (docs/RULES.md, "Lists of backers").
-use cesr::primitive::BasicPrefix;
-use cesr::primitive::Matter;
+use crate::Members;
+use crate::Membership;
+use crate::Pushed;
+use cesr::BasicPrefix;
+use cesr::Matter;
 ghost use mathlib.Core.Path.{_≡_};
 ghost use mathlib.Core.Bool.{false, cond, not};
 ghost use mathlib.Core.List.{[]};
@@ -8,35 +11,6 @@ ghost use Prim.Native.Nat.{_≤_};
 ghost use lib.ListN.{length};
 ghost use lib.Dec.{ltb};
 ghost use Rattle.events.specs.Members.{view, noPrefix, at, pushed, orElse};
-
-// The members are the first `count` of the items.
-#[repr(C)]
-pub struct Members {
-    pub items: [BasicPrefix; 16],
-    pub count: usize,
-}
-
-// What `push` answers: whether there was a place, and the list.
-pub struct Pushed {
-    pub ok: bool,
-    pub members: Members,
-}
-
-// The rules, in the order of their numbers.
-pub enum Rule {
-    DuplicateBacker,
-    DuplicateCut,
-    DuplicateAddition,
-    CutAddOverlap,
-    RemovalNotCurrent,
-    AdditionAlreadyPresent,
-}
-
-// The answer of a check. `at` is the position, from 0, of an element that breaks the rule.
-pub enum Membership {
-    Sound,
-    Broken { rule: Rule, at: usize },
-}
 
 impl Members {
     pub fn empty() -> Members

@@ -1,8 +1,9 @@
 // The rules on lists of backers by value (docs/RULES.md, "Lists of backers"): the first place that breaks one, in the order of the rules.
-use cesr::primitive::BasicPrefix;
-use events::member_set::Members;
-use events::member_set::Membership;
-use events::member_set::Rule;
+use crate::MemberSet;
+use cesr::BasicPrefix;
+use events::Members;
+use events::Membership;
+use events::Rule;
 use events::member_set::differs;
 use events::member_set::or_else;
 use events::member_set::until;
@@ -10,9 +11,6 @@ ghost use mathlib.Core.Path.{_≡_};
 ghost use mathlib.Core.Bool.{cond};
 ghost use mathlib.Core.List.{[]};
 ghost use Rattle.events.specs.Members.{view, isRepeat, isMissing, check, checkMembers, checkDeltas, checkCurrent, Offends};
-
-// The checks of lists of backers.
-pub struct MemberSet;
 
 impl MemberSet {
     // No backer stands twice.

@@ -1,9 +1,9 @@
 -- Laws of identifiers: a primitive becomes an identifier and back without a change.
 use mathlib.Core.Path.{_≡_, refl}
 use mathlib.Core.Bool.{Bool, true, false, cond}
-use Rattle.cesr.specs.declared.primitive.Matter.{Matter}
+use Rattle.cesr.specs.declared.Matter.{Matter}
 use Rattle.cesr.specs.Primitives.{isBasic}
-use Rattle.events_seal.specs.declared.identifier.Identifier.the-variants.{Basic, SelfAddressing}
+use Rattle.events_seal.specs.declared.Identifier.the-variants.{Basic, SelfAddressing}
 use Rattle.events_seal.specs.Identifiers.{matterOf, identifierOf}
 
 pub matter-identifier : (m : Matter) → matterOf (identifierOf m) ≡ m

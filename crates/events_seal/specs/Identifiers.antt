@@ -1,10 +1,10 @@
 -- Identifiers (docs/RULES.md, "Identifiers and seals").
 use Prim.Native.Nat.{ℕ}
 use mathlib.Core.Bool.{Bool, cond}
-use Rattle.cesr.specs.declared.primitive.Matter.{Matter}
+use Rattle.cesr.specs.declared.Matter.{Matter}
 use Rattle.cesr.specs.Primitives.{eqMatter, isBasic}
-use Rattle.events_seal.specs.declared.identifier.Identifier.{Identifier}
-use Rattle.events_seal.specs.declared.identifier.Identifier.the-variants.{Basic, SelfAddressing}
+use Rattle.events_seal.specs.declared.Identifier.{Identifier}
+use Rattle.events_seal.specs.declared.Identifier.the-variants.{Basic, SelfAddressing}
 
 -- the primitive that an identifier is
 abbrev pub matterOf : Identifier → Matter

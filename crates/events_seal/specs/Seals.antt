@@ -1,7 +1,7 @@
 -- Seals (docs/RULES.md, "Identifiers and seals").
 use Prim.Native.Nat.{ℕ}
-use Rattle.events_seal.specs.declared.seal.Seal.{Seal}
-use Rattle.events_seal.specs.declared.seal.Seal.the-variants.{Digest, Root, Source, Event, Last, Back, Kind, Opaque}
+use Rattle.events_seal.specs.declared.Seal.{Seal}
+use Rattle.events_seal.specs.declared.Seal.the-variants.{Digest, Root, Source, Event, Last, Back, Kind, Opaque}
 
 -- the number of a seal's kind
 abbrev pub kindOf : Seal → ℕ

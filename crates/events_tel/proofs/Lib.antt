@@ -1,1 +1,1 @@
-pub mod Configs
+pub mod ConfigLaws

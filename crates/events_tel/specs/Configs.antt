@@ -4,11 +4,11 @@ use mathlib.Core.List.{List, [], _∷_, _++_}
 use mathlib.Core.Bool.{Bool, false, cond, _||_}
 use lib.ListN.{length, take}
 use lib.Dec.{eqb, ltb}
-use Rattle.events_tel.specs.declared.config.Configs.{Configs}
-use Rattle.events_tel.specs.declared.config.ConfigTrait.{ConfigTrait}
-use Rattle.events_tel.specs.declared.config.ConfigTrait.the-variants.{EstOnly, DoNotDelegate, NoBackers, RegistrarBackers, NoRegistrarBackers, DelegateIsDelegator}
-use Rattle.events_tel.specs.declared.config.TraitRead.{TraitRead}
-use Rattle.events_tel.specs.declared.config.TraitRead.the-variants.{Trait, UnknownConfigTrait}
+use Rattle.events_tel.specs.declared.Configs.{Configs}
+use Rattle.events_tel.specs.declared.ConfigTrait.{ConfigTrait}
+use Rattle.events_tel.specs.declared.ConfigTrait.the-variants.{EstOnly, DoNotDelegate, NoBackers, RegistrarBackers, NoRegistrarBackers, DelegateIsDelegator}
+use Rattle.events_tel.specs.declared.TraitRead.{TraitRead}
+use Rattle.events_tel.specs.declared.TraitRead.the-variants.{Trait, UnknownConfigTrait}
 
 -- a trait's byte is its place
 abbrev pub codeOf : ConfigTrait → ℕ

@@ -1,4 +1,8 @@
 // Configuration traits, and lists of their bytes (docs/RULES.md, "Configuration traits").
+use crate::ConfigTrait;
+use crate::Configs;
+use crate::PushedConfig;
+use crate::TraitRead;
 ghost use mathlib.Core.Path.{_≡_};
 ghost use Prim.Native.Nat.{_≤_};
 ghost use mathlib.Core.Bool.{false};
@@ -6,39 +10,6 @@ ghost use mathlib.Core.List.{[]};
 ghost use lib.ListN.{length, getD};
 ghost use Rattle.laws.specs.Words.{sameList};
 ghost use Rattle.events_tel.specs.Configs.{codeOf, traitOf, viewConfigs, hasRoom, pushed, hasCode, noBackers};
-
-// What an identifier may do.
-pub enum ConfigTrait {
-    // Establishment events alone.
-    EstOnly,
-    DoNotDelegate,
-    // No witnesses and no other backers.
-    NoBackers,
-    // Registrars for backers, instead of witnesses.
-    RegistrarBackers,
-    NoRegistrarBackers,
-    // The delegate's prefix is the delegator's.
-    DelegateIsDelegator,
-}
-
-pub enum TraitRead {
-    Trait(ConfigTrait),
-    UnknownConfigTrait,
-}
-
-// A list of at most 8 config bytes, as it was handed in. They are kept as bytes, since a host lends them as memory and every
-// pattern of bits has to be a value.
-#[repr(C)]
-pub struct Configs {
-    pub codes: [u8; 8],
-    pub count: usize,
-}
-
-// A list with one more byte, or the list as it was where there is no room.
-pub struct PushedConfig {
-    pub ok: bool,
-    pub configs: Configs,
-}
 
 impl ConfigTrait {
     pub fn code(self) -> u8

@@ -10,7 +10,7 @@ use native.Mathlib.Omega.{arith}
 use native.Mathlib.Decide.{decLt}
 use borrow.Author.Tests.{le-leb, lt-leb, ne-eqb}
 use lib.Dec.{leb}
-use Rattle.events_toad.specs.declared.toad.ToadResult.the-variants.{Valid, OutOfRange, Overflow}
+use Rattle.events_toad.specs.declared.ToadResult.the-variants.{Valid, OutOfRange, Overflow}
 use Rattle.events_toad.specs.Toads.{toadOf, toadNumber, exactOk, exactOf, ceil, strongMajority, leastOf, ampleOf}
 
 -- one rule for 0 and for every other count

@@ -2,9 +2,9 @@
 use Prim.Native.Nat.{ℕ, _+_, _-_, _/_, min, max}
 use mathlib.Core.Bool.{Bool, cond, _&&_}
 use lib.Dec.{eqb, leb}
-use Rattle.events_toad.specs.declared.toad.Toad.{Toad}
-use Rattle.events_toad.specs.declared.toad.ToadResult.{ToadResult}
-use Rattle.events_toad.specs.declared.toad.ToadResult.the-variants.{Valid, OutOfRange, Overflow}
+use Rattle.events_toad.specs.declared.Toad.{Toad}
+use Rattle.events_toad.specs.declared.ToadResult.{ToadResult}
+use Rattle.events_toad.specs.declared.ToadResult.the-variants.{Valid, OutOfRange, Overflow}
 
 abbrev pub toadOf : ℕ → Toad
 toadOf t = record { 0 = t }

@@ -3,7 +3,7 @@ use Prim.Native.Nat.{ℕ, _+_, _-_, _^_}
 use mathlib.Core.Bool.{Bool, true, not, cond, _&&_}
 use lib.Dec.{eqb, leb, ltb}
 use lib.ListN.{getD, set, replicate}
-use Rattle.folds_judge.specs.declared.part.Finding.{Finding}
+use Rattle.folds_judge.specs.declared.Finding.{Finding}
 use Rattle.folds.specs.declared.tally.Count.{Count}
 use Rattle.folds.specs.declared.tally.Tally.{Tally}
 

@@ -8,9 +8,9 @@
 // or the input of `status`. Behind a refusal there is no next state, since the one that was handed in stays.
 mod tally;
 
+use folds_judge::Finding;
 use folds_judge::judge::body_size;
 use folds_judge::judge::judge_record;
-use folds_judge::part::Finding;
 use libc::STDIN_FILENO;
 use libc::STDOUT_FILENO;
 use tally::Tally;

@@ -1,5 +1,5 @@
 // How many cases there were and how many agree, by the number that is expected.
-use folds_judge::part::Finding;
+use folds_judge::Finding;
 use libc::STDOUT_FILENO;
 ghost use mathlib.Core.Path.{_≡_};
 ghost use Prim.Native.Nat.{_≤_};

@@ -10,12 +10,12 @@ use Rattle.laws.specs.Words.{sameList}
 use Rattle.registry_state.specs.States.{viewRegistry, wellRegistry}
 use Rattle.registry_state_credential.specs.CredentialStates.{credentialBytes}
 use Rattle.registry_answer.specs.Answers.{accepts}
-use Rattle.registry_issue.specs.declared.credential_state.CredentialOutcome.{CredentialOutcome}
+use Rattle.registry_issue.specs.declared.CredentialOutcome.{CredentialOutcome}
 use Rattle.registry_issue.specs.IssueFolds.{Outcome, inceptOf, viewOutcome}
 use Rattle.registry_credential_state.specs.CredentialFolds.{ingestOf}
-use Rattle.folds_judge.specs.declared.part.Finding.{Finding}
-use Rattle.folds_judge.specs.declared.part.RegistryPart.{RegistryPart}
-use Rattle.folds_judge.specs.declared.part.CredentialPart.{CredentialPart}
+use Rattle.folds_judge.specs.declared.Finding.{Finding}
+use Rattle.folds_judge.specs.declared.RegistryPart.{RegistryPart}
+use Rattle.folds_judge.specs.declared.CredentialPart.{CredentialPart}
 use Rattle.host_report.specs.Reports.{answerReport}
 use Rattle.folds_judge.specs.Judgement.{registryIn, credentialIn, viewRegistryPart, viewCredentialPart, wellView, issueOf, revokeOf, credentialAgrees, unread, judgeIssue, judgeRevoke}
 

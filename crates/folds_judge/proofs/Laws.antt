@@ -18,7 +18,7 @@ use Rattle.laws.specs.Words.{sameList}
 use Rattle.laws.proofs.Room.{put-sets, length-put}
 use Rattle.laws.proofs.Words.{same-refl, same-equal}
 use Rattle.registry_state.specs.States.{viewRegistry, wellRegistry}
-use Rattle.registry_state.specs.declared.state.RegistryState.{RegistryState}
+use Rattle.registry_state.specs.declared.RegistryState.{RegistryState}
 use Rattle.registry_wire.specs.Attempts.{partOf}
 use Rattle.folds_judge.specs.Judgement.{wellView, part, judgeCall, judgeOf}
 

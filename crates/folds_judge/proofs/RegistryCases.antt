@@ -8,11 +8,11 @@ use mathlib.Core.List.{List}
 use Rattle.laws.specs.Words.{sameList}
 use Rattle.registry_state.specs.States.{viewRegistry, registryBytes, wellRegistry}
 use Rattle.registry_answer.specs.Answers.{accepts}
-use Rattle.registry_inception.specs.declared.registry.RegistryOutcome.{RegistryOutcome}
+use Rattle.registry_inception.specs.declared.RegistryOutcome.{RegistryOutcome}
 use Rattle.registry_inception.specs.InceptionFolds.{Outcome, viewOutcome}
 use Rattle.registry.specs.RegistryFolds.{ingestOf}
-use Rattle.folds_judge.specs.declared.part.Finding.{Finding}
-use Rattle.folds_judge.specs.declared.part.RegistryPart.{RegistryPart}
+use Rattle.folds_judge.specs.declared.Finding.{Finding}
+use Rattle.folds_judge.specs.declared.RegistryPart.{RegistryPart}
 use Rattle.host_report.specs.Reports.{answerReport}
 use Rattle.folds_judge.specs.Judgement.{registryIn, viewRegistryPart, wellView, rotateOf, registryAgrees, unread, judgeRotate}
 

@@ -12,10 +12,10 @@ use Rattle.codec.specs.Events.{isConfig}
 use Rattle.codec.specs.Layout.{all}
 use Rattle.registry_state.specs.States.{Registry, viewRegistry, registryBytes, readRegistry, isBacker}
 use Rattle.registry_state_credential.specs.CredentialStates.{credentialBytes, readCredential, wellCredential, noCredential}
-use Rattle.registry_state_credential.specs.declared.state.CredentialState.{CredentialState}
+use Rattle.registry_state_credential.specs.declared.CredentialState.{CredentialState}
 use Rattle.registry_wire.specs.Attempts.{decodeOf}
-use Rattle.registry_error.specs.declared.error.RegistryRejection.the-variants.{Malformed}
-use Rattle.registry_error.specs.declared.error.Answer.the-variants.{Rejected}
+use Rattle.registry_error.specs.declared.RegistryRejection.the-variants.{Malformed}
+use Rattle.registry_error.specs.declared.Answer.the-variants.{Rejected}
 use Rattle.registry_answer.specs.Answers.{accepts}
 use Rattle.registry_inception.specs.InceptionFolds as N
 use Rattle.registry.specs.RegistryFolds as G
@@ -24,9 +24,9 @@ use Rattle.registry_credential_state.specs.CredentialFolds as W
 use Rattle.registry_credential.specs.Status.{statusOf}
 use Rattle.host_report.specs.Reports.{rejectionReport, answerReport}
 use Rattle.host_status.specs.StatusReports.{statusReport}
-use Rattle.folds_judge.specs.declared.part.Finding.{Finding}
-use Rattle.folds_judge.specs.declared.part.RegistryPart.{RegistryPart}
-use Rattle.folds_judge.specs.declared.part.CredentialPart.{CredentialPart}
+use Rattle.folds_judge.specs.declared.Finding.{Finding}
+use Rattle.folds_judge.specs.declared.RegistryPart.{RegistryPart}
+use Rattle.folds_judge.specs.declared.CredentialPart.{CredentialPart}
 
 -- a state in a record's bytes, and whether these are such a state and nothing else
 pub record Part (A : Type 0) : Type 0 where

@@ -1,5 +1,5 @@
 // Cases of the folds of a credential.
-use crate::part::Finding;
+use crate::Finding;
 use crate::part::read_credential;
 use crate::part::read_registry;
 use crate::part::same;
@@ -7,9 +7,9 @@ use crate::part::same_report;
 use crate::part::unread;
 use registry_answer::answer::accepts;
 use registry_credential_state::credential_state::ingest;
-use registry_issue::credential_state::CredentialOutcome;
+use registry_issue::CredentialOutcome;
 use registry_issue::credential_state::incept;
-use registry_state_credential::state::CredentialState;
+use registry_state_credential::CredentialState;
 ghost use mathlib.Core.Path.{_≡_};
 ghost use mathlib.Core.Bool.{cond};
 ghost use Rattle.laws.specs.Words.{sameList};

@@ -1,14 +1,14 @@
 // A record's call is made again, and what comes out is held against what the record says.
+use crate::Finding;
 use crate::credential_case::judge_issue;
 use crate::credential_case::judge_revoke;
-use crate::part::Finding;
 use crate::part::same;
 use crate::registry_case::judge_incept;
 use crate::registry_case::judge_rotate;
 use cesr_number::number::read_u8;
 use cesr_number::number::read_u16;
 use host_status::status_calls::status;
-use registry_wire::attempt::Part;
+use registry_wire::Part;
 ghost use mathlib.Core.Path.{_≡_};
 ghost use Rattle.folds_judge.specs.Judgement.{judgeStatus, judgeCall, sizeOf, judgeOf};
 

@@ -1,33 +1,18 @@
 // What a record has: the states that are handed in, and what is found of the case.
-use codec_cursor::cursor::Cursor;
+use crate::CredentialPart;
+use crate::Finding;
+use crate::RegistryPart;
+use codec_cursor::Cursor;
 use host_report::report::report_answer;
-use registry_error::error::Answer;
-use registry_error::error::RegistryRejection;
-use registry_state::state::RegistryState;
-use registry_state_credential::state::CredentialState;
+use registry_error::Answer;
+use registry_error::RegistryRejection;
+use registry_state::RegistryState;
+use registry_state_credential::CredentialState;
 ghost use mathlib.Core.Path.{_≡_};
 ghost use Rattle.laws.specs.Words.{sameList};
 ghost use Rattle.registry_state.specs.States.{viewRegistry, wellRegistry};
 ghost use Rattle.host_report.specs.Reports.{answerReport};
 ghost use Rattle.folds_judge.specs.Judgement.{registryIn, credentialIn, viewRegistryPart, viewCredentialPart, wellView, unread};
-
-// What is found of a case.
-pub struct Finding {
-    pub agrees: bool,
-    // Whether the states in its record can be read.
-    pub read: bool,
-}
-
-// A state in a record, and whether its bytes are such a state and nothing else.
-pub struct RegistryPart {
-    pub ok: bool,
-    pub value: RegistryState,
-}
-
-pub struct CredentialPart {
-    pub ok: bool,
-    pub value: CredentialState,
-}
 
 pub(crate) fn same(a: &[u8], b: &[u8]) -> bool
     ensures { λ r. ⌜ r ≡ sameList (now (a .entry)) (now (b .entry)) ⌝ }

@@ -1,14 +1,14 @@
 // Cases of the folds of a registry.
-use crate::part::Finding;
+use crate::Finding;
 use crate::part::read_registry;
 use crate::part::same;
 use crate::part::same_report;
 use crate::part::unread;
 use registry::registry::ingest;
 use registry_answer::answer::accepts;
-use registry_inception::registry::RegistryOutcome;
+use registry_inception::RegistryOutcome;
 use registry_inception::registry::incept_with_evidence;
-use registry_state::state::RegistryState;
+use registry_state::RegistryState;
 ghost use mathlib.Core.Path.{_≡_};
 ghost use mathlib.Core.Bool.{cond};
 ghost use Rattle.laws.specs.Words.{sameList};

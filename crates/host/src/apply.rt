@@ -1,7 +1,7 @@
 // The call of a ledger that a host lends as one block: one attempt (docs/RULES.md, "Host's calls"). Both arrays are lent on where they lie, so nothing of the table is copied.
 use host_report::report::report_answer;
 use ledger_apply::apply::apply;
-use ledger_table::table::Ledger;
+use ledger_table::Ledger;
 ghost use mathlib.Core.Path.{_≡_};
 ghost use mathlib.Core.Bool.{false};
 ghost use Rattle.registry_answer.specs.Answers.{accepts};

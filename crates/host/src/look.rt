@@ -2,7 +2,7 @@
 use host_ledger::key::key_in;
 use host_ledger::report::report_looked_up;
 use ledger_lookup::lookup::look_up;
-use ledger_table::table::Ledger;
+use ledger_table::Ledger;
 ghost use mathlib.Core.Path.{_≡_};
 ghost use Rattle.ledger_step.specs.Ledgers.{lookUp};
 ghost use Rattle.ledger_table.specs.Tables.{viewLedger};

@@ -1,7 +1,7 @@
 // An image, read into a ledger that a host lends as one block (docs/RULES.md, "Image", "Host's calls"). Both arrays are lent on where they lie, so nothing of the table is copied.
 use host_ledger::report::report_read;
 use ledger_read::read::read_image;
-use ledger_table::table::Ledger;
+use ledger_table::Ledger;
 ghost use mathlib.Core.Path.{_≡_};
 ghost use Rattle.ledger_image.specs.Images.{imageOf, imageNumber};
 ghost use Rattle.ledger_image.specs.Images.ImageAnswer.{refused};

@@ -1,6 +1,6 @@
 // The image of a ledger that a host lends as one block (docs/RULES.md, "Host's calls", "Image"). Both arrays are lent on where they lie, so nothing of the table is copied.
 use host_ledger::report::report_written;
-use ledger_table::table::Ledger;
+use ledger_table::Ledger;
 use ledger_write::write::write_image;
 ghost use mathlib.Core.Path.{_≡_};
 ghost use Rattle.ledger_image.specs.Images.{writtenOf};

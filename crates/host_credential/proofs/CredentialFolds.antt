@@ -10,23 +10,23 @@ use mathlib.Core.List.{List}
 use mathlib.Core.Option.{Option, none, some}
 use lib.Dec.{eqb}
 use lib.ListN.{length}
-use Rattle.codec_cursor.specs.declared.cursor.Cursor.{Cursor}
+use Rattle.codec_cursor.specs.declared.Cursor.{Cursor}
 use Rattle.codec_cursor.specs.Readers.{Read, starting}
 use Rattle.registry_state.specs.States.{Registry, readRegistry}
-use Rattle.registry_state_credential.specs.declared.state.CredentialState.{CredentialState}
+use Rattle.registry_state_credential.specs.declared.CredentialState.{CredentialState}
 use Rattle.registry_issue.specs.IssueFolds as I
 use Rattle.registry_credential_state.specs.CredentialFolds as W
 use Rattle.cesr.specs.Primitives.{saidAt}
 use Rattle.events_tel.specs.TelEvents.{snZero, snOne}
 use Rattle.registry_state_credential.specs.CredentialStates.{credentialAt}
-use Rattle.registry_state_credential.specs.declared.state.CredentialAt.{CredentialAt}
+use Rattle.registry_state_credential.specs.declared.CredentialAt.{CredentialAt}
 use Rattle.registry_state_credential.proofs.CodesCredential.{credential-head}
-use Rattle.registry_error.specs.declared.error.Answer.{Answer}
-use Rattle.registry_error.specs.declared.error.Answer.the-variants.{Accepted}
+use Rattle.registry_error.specs.declared.Answer.{Answer}
+use Rattle.registry_error.specs.declared.Answer.the-variants.{Accepted}
 use Rattle.registry_answer.specs.Answers.{accepts}
-use Rattle.registry_issue.specs.declared.credential_state.Issue.{Issue}
+use Rattle.registry_issue.specs.declared.Issue.{Issue}
 use Rattle.registry_credential_state.specs.CredentialParts.{revocationAnswer, revocationAt}
-use Rattle.registry_credential_state.specs.declared.credential_state.Revocation.{Revocation}
+use Rattle.registry_credential_state.specs.declared.Revocation.{Revocation}
 use Rattle.host_next.specs.ByteFolds.{registryIn, credentialFolded, credentialCopied, noState}
 use Rattle.host_next.proofs.Calls.{is-accepted}
 use Rattle.host_credential.specs.CredentialByteFolds.{credentialIn, credentialIncept, ingestCredential, credentialIngest}

@@ -10,11 +10,11 @@ use mathlib.Core.Option.{none, some}
 use lib.Dec.{eqb}
 use lib.ListN.{length}
 use Rattle.laws.specs.Number.{Bytes}
-use Rattle.codec_cursor.specs.declared.cursor.Cursor.{Cursor}
+use Rattle.codec_cursor.specs.declared.Cursor.{Cursor}
 use Rattle.codec_cursor.specs.Readers.{starting}
 use Rattle.registry_state_credential.specs.CredentialStates.{credentialBytes, goodCredential, readCredential, credentialAt, viewCredentialAt}
-use Rattle.registry_state_credential.specs.declared.state.CredentialState.{CredentialState}
-use Rattle.registry_state_credential.specs.declared.state.CredentialAt.{CredentialAt}
+use Rattle.registry_state_credential.specs.declared.CredentialState.{CredentialState}
+use Rattle.registry_state_credential.specs.declared.CredentialAt.{CredentialAt}
 use Rattle.registry_state_credential.proofs.CodesCredential.{codes-credential}
 use Rattle.host_next.proofs.StatesIn.{whole-is}
 use Rattle.host_credential.specs.CredentialByteFolds.{credentialIn}

@@ -5,7 +5,7 @@ use mathlib.Core.Option.{Option, none, some}
 use Rattle.codec_cursor.specs.Readers.{starting}
 use Rattle.registry_state.specs.States.{Registry}
 use Rattle.registry_state_credential.specs.CredentialStates.{readCredential}
-use Rattle.registry_state_credential.specs.declared.state.CredentialState.{CredentialState}
+use Rattle.registry_state_credential.specs.declared.CredentialState.{CredentialState}
 use Rattle.registry_wire.specs.Attempts.{decodeOf}
 use Rattle.registry_issue.specs.IssueFolds as I
 use Rattle.registry_credential_state.specs.CredentialFolds as W

@@ -1,6 +1,6 @@
 // An iss or bis, and a rev or brv, under the registry whose state is handed in. That state's backers and the held credential state stay in their bytes. The next state's bytes go to the start of `next`.
-use cesr_sn::number::Sn;
-use codec_cursor::cursor::Cursor;
+use cesr_sn::Sn;
+use codec_cursor::Cursor;
 use host_next::credential_next::leave_credential;
 use host_parts::part::is_whole;
 use host_parts::part::malformed;
@@ -9,8 +9,8 @@ use registry_answer::answer::accepts;
 use registry_backing::backing::own_in;
 use registry_credential_state::credential_state::ingest_read;
 use registry_issue::credential_state::incept_read;
-use registry_management::management::read_management;
-use registry_state_credential::state::CredentialAt;
+use registry_management::read_management;
+use registry_state_credential::CredentialAt;
 use registry_transition::transition::transition_in;
 ghost use mathlib.Core.Path.{_≡_};
 ghost use Rattle.host_next.specs.ByteFolds.{called, callOf};

@@ -5,14 +5,14 @@ use mathlib.Core.Path.{_≡_, refl, sym, ap, _∙_}
 use mathlib.Core.Bool.{Bool, true, false, cond}
 use mathlib.Core.List.{List, [], _∷_}
 use Rattle.events_tel.specs.TelEvents.{kindNumber, eventAs}
-use Rattle.events_tel.specs.declared.tel.Kind.{Kind}
-use Rattle.events_tel.specs.declared.tel.Kind.the-variants.{Vcp, Vrt, Iss, Rev, Bis, Brv}
-use Rattle.events_tel.specs.declared.tel.TelEvent.{TelEvent}
+use Rattle.events_tel.specs.declared.Kind.{Kind}
+use Rattle.events_tel.specs.declared.Kind.the-variants.{Vcp, Vrt, Iss, Rev, Bis, Brv}
+use Rattle.events_tel.specs.declared.TelEvent.{TelEvent}
 use Rattle.registry_wire.specs.Attempts.{Decoded, viewDecoded, decodeOf}
 use Rattle.registry_wire.specs.Attempts.Decoded.{malformed, decoded}
-use Rattle.registry_wire.specs.declared.attempt.DecodedAttempt.{DecodedAttempt}
-use Rattle.registry_error.specs.declared.error.RegistryRejection.the-variants.{Malformed}
-use Rattle.registry_error.specs.declared.error.Answer.the-variants.{Accepted, Rejected}
+use Rattle.registry_wire.specs.declared.DecodedAttempt.{DecodedAttempt}
+use Rattle.registry_error.specs.declared.RegistryRejection.the-variants.{Malformed}
+use Rattle.registry_error.specs.declared.Answer.the-variants.{Accepted, Rejected}
 use Rattle.host_decode.specs.DecodeReports.{eventNumber, decodedAnswer, decodedValues}
 
 numbered : (s : List ℕ) (k : Kind) (e : TelEvent) → eventNumber (eventAs s k e) ≡ kindNumber k

@@ -1,10 +1,10 @@
 // An attempt is decoded and nothing else is done with it: a host may ask before it sends or keeps it.
 use host_parts::part::malformed;
 use host_report::report::report_with;
-use host_values::values::Values;
-use host_values::values::small;
-use registry_error::error::Answer;
-use registry_wire::attempt::Attempt;
+use host_values::Values;
+use host_values::small;
+use registry_error::Answer;
+use registry_wire::Attempt;
 ghost use mathlib.Core.Path.{_≡_};
 ghost use Rattle.registry_error.specs.Errors.{answerNumber};
 ghost use Rattle.registry_wire.specs.Attempts.{decodeOf};

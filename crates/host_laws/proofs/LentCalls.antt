@@ -46,13 +46,13 @@ use denote.Triple.Clauses.{Ended}
 use denote.Triple.Entry.{Args, Vals}
 use denote.Triple.Walked.{onExit, Stays, stay-ref, stay-dropped, gave-ref, AllGo, goes-ref, goes-dropped, goes-gave-ref}
 use denote.Exit.{yes}
-use Rattle.registry_state.specs.declared.state.RegistryState.{RegistryState}
-use Rattle.registry_state_credential.specs.declared.state.CredentialState.{CredentialState}
-use Rattle.registry_state.proofs.state.RegistryState as G
-use Rattle.registry_state_credential.proofs.state.CredentialState as T
-use Rattle.ledger_table.specs.declared.table.Ledger.{Ledger}
-use Rattle.ledger_table.proofs.table.Ledger as K
-use Rattle.ledger_table.proofs.table.Ledger.Laws as K′
+use Rattle.registry_state.specs.declared.RegistryState.{RegistryState}
+use Rattle.registry_state_credential.specs.declared.CredentialState.{CredentialState}
+use Rattle.registry_state.proofs.RegistryState as G
+use Rattle.registry_state_credential.proofs.CredentialState as T
+use Rattle.ledger_table.specs.declared.Ledger.{Ledger}
+use Rattle.ledger_table.proofs.Ledger as K
+use Rattle.ledger_table.proofs.Ledger.Laws as K′
 use Rattle.ledger_table.proofs.Spelled.{spelled, tells, Parts, parts, length-g, length-w}
 use Rattle.host_laws.proofs.LentLedger.{word, arr-g, arr-w, fields, Cell, Count-g, Count-w, val-gs, Own-gs, val-ws, Own-ws, Kept, lends, backs}
 

@@ -30,13 +30,13 @@ use denote.Laws.{Is, shows}
 use denote.Steps.{looks, shuts as shut, owned, peeks}
 use denote.Struct.Steps.{spelt}
 use denote.Struct.Laws as LL
-use Rattle.registry_state.proofs.state.RegistryState as G
-use Rattle.registry_state.proofs.state.RegistryState.Laws as G′
-use Rattle.registry_state_credential.proofs.state.CredentialState as T
-use Rattle.registry_state_credential.proofs.state.CredentialState.Laws as T′
-use Rattle.ledger_table.specs.declared.table.Ledger.{Ledger}
-use Rattle.ledger_table.proofs.table.Ledger as K
-use Rattle.ledger_table.proofs.table.Ledger.Laws as K′
+use Rattle.registry_state.proofs.RegistryState as G
+use Rattle.registry_state.proofs.RegistryState.Laws as G′
+use Rattle.registry_state_credential.proofs.CredentialState as T
+use Rattle.registry_state_credential.proofs.CredentialState.Laws as T′
+use Rattle.ledger_table.specs.declared.Ledger.{Ledger}
+use Rattle.ledger_table.proofs.Ledger as K
+use Rattle.ledger_table.proofs.Ledger.Laws as K′
 use Rattle.ledger_table.proofs.Spelled as spell
 use Rattle.ledger_table.proofs.Spelled.{spelled, tells, Parts, parts, room-g, room-w}
 use Rattle.host_laws.proofs.ShownArrays.{Back, Own, lends-in}

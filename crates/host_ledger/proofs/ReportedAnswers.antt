@@ -7,9 +7,9 @@ use mathlib.Core.List.{List}
 use Rattle.ledger_step.specs.Ledgers as L
 use Rattle.ledger_image.specs.Images as I
 use Rattle.ledger_standing.specs.Lookups.{viewLookedUp}
-use Rattle.ledger_standing.specs.declared.lookup.LookedUp.{LookedUp}
+use Rattle.ledger_standing.specs.declared.LookedUp.{LookedUp}
 use Rattle.ledger_written.specs.Writes.{viewWritten}
-use Rattle.ledger_written.specs.declared.answer.Written.{Written}
+use Rattle.ledger_written.specs.declared.Written.{Written}
 use Rattle.host_ledger.specs.LedgerCalls.{lookedUpReport, writtenReport, lookUpReport, imageReport}
 
 pub looked-up-told : (a : LookedUp) (w : L.LookedUp) (r : ℕ) (report : List ℕ) → viewLookedUp a ≡ w → (r ≡ a .refusal) × (report ≡ lookedUpReport a) → (r ≡ w .refusal) × (report ≡ lookUpReport w)

@@ -5,13 +5,13 @@ use mathlib.Core.List.{List, [], _∷_}
 use lib.Dec.{eqb}
 use lib.ListN.{length}
 use Rattle.cesr.specs.Primitives.{none, readMatter}
-use Rattle.cesr.specs.declared.primitive.Said.{Said}
+use Rattle.cesr.specs.declared.Said.{Said}
 use Rattle.registry_laws.specs.Pairs.{Pair}
 use Rattle.ledger_step.specs.Ledgers as L
 use Rattle.ledger_image.specs.Images as I
 use Rattle.ledger_standing.specs.Lookups.{keyPair}
-use Rattle.ledger_standing.specs.declared.lookup.LookedUp.{LookedUp}
-use Rattle.ledger_written.specs.declared.answer.Written.{Written}
+use Rattle.ledger_standing.specs.declared.LookedUp.{LookedUp}
+use Rattle.ledger_written.specs.declared.Written.{Written}
 use Rattle.host_report.specs.Reports.{plainReport}
 use Rattle.host_ledger.specs.declared.key.Key.{Key}
 

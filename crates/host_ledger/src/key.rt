@@ -1,6 +1,6 @@
 // The key of a look-up, in its bytes (docs/RULES.md, "Host's calls", "Look-up").
-use cesr::primitive::Matter;
-use cesr::primitive::Said;
+use cesr::Matter;
+use cesr::Said;
 ghost use mathlib.Core.Path.{_≡_};
 ghost use Rattle.host_ledger.specs.LedgerCalls.{saidIn, keyIn, viewKey};
 

@@ -1,9 +1,9 @@
 // A look-up's report, and those of images. Each writer answers the number that it writes.
 use host_report::report::report_plain;
-use host_values::values::Values;
-use host_values::values::small;
-use ledger_standing::lookup::LookedUp;
-use ledger_written::answer::Written;
+use host_values::Values;
+use host_values::small;
+use ledger_standing::LookedUp;
+use ledger_written::Written;
 ghost use mathlib.Core.Path.{_≡_};
 ghost use Rattle.host_ledger.specs.LedgerCalls.{lookedUpReport, writtenReport, readReport};
 

@@ -16,9 +16,9 @@ use lib.ListN.{length}
 use lib.Seq.{sets}
 use Rattle.laws.specs.Room.{room, put}
 use Rattle.laws.proofs.Room.{put-sets, put-none}
-use Rattle.registry_error.specs.declared.error.RegistryRejection.the-variants.{Malformed, ShortBuffer}
-use Rattle.registry_error.specs.declared.error.Answer.{Answer}
-use Rattle.registry_error.specs.declared.error.Answer.the-variants.{Accepted, Rejected}
+use Rattle.registry_error.specs.declared.RegistryRejection.the-variants.{Malformed, ShortBuffer}
+use Rattle.registry_error.specs.declared.Answer.{Answer}
+use Rattle.registry_error.specs.declared.Answer.the-variants.{Accepted, Rejected}
 use Rattle.registry_error.specs.Errors.{answerNumber}
 use Rattle.registry_answer.specs.Answers.{accepts, acceptIf, orElse}
 use Rattle.registry_answer.proofs.AnswerLaws.{or-second, passed}

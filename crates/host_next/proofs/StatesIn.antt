@@ -15,18 +15,18 @@ use lib.Dec.{eqb}
 use lib.ListN.{length}
 use Rattle.laws.specs.Number.{Bytes}
 use Rattle.laws.proofs.Tests.{and-left, and-right}
-use Rattle.cesr.specs.declared.primitive.Matter.{Matter}
-use Rattle.cesr.specs.declared.primitive.Said.{Said}
+use Rattle.cesr.specs.declared.Matter.{Matter}
+use Rattle.cesr.specs.declared.Said.{Said}
 use Rattle.cesr.specs.Primitives.{readMatter, matterBytes}
 use Rattle.cesr.proofs.Matters.{length-matter}
-use Rattle.codec_cursor.specs.declared.cursor.Cursor.{Cursor}
+use Rattle.codec_cursor.specs.declared.Cursor.{Cursor}
 use Rattle.codec_cursor.specs.Readers.{Read, Reader, starting, placed, readIf, readSaid, readIdentifier}
 use Rattle.codec.specs.Layout.{saidBytes, goodSaid, goodIdentifier}
 use Rattle.codec_laws.proofs.Stands.{Stands, stands-first, stands-rest, whole-stands}
 use Rattle.codec_laws.proofs.Codes.{Codes, codes-said, codes-identifier}
 use Rattle.codec_laws.proofs.CodesRound.{whole-sound, whole-complete}
 use Rattle.registry_state.specs.States.{Registry, viewRegistry, registryBytes, goodRegistry, readRegistry, viewRegistryRead, wellRegistry}
-use Rattle.registry_state.specs.declared.state.RegistryRead.{RegistryRead}
+use Rattle.registry_state.specs.declared.RegistryRead.{RegistryRead}
 use Rattle.registry_state.proofs.CodesState.{codes-registry}
 use Rattle.host_next.specs.ByteFolds.{wholeOf, registryIn}
 

@@ -7,16 +7,16 @@ use lib.Dec.{eqb, leb}
 use lib.ListN.{length}
 use lib.Seq.{sets}
 use Rattle.cesr.specs.Primitives.{readMatter}
-use Rattle.cesr_sn.specs.declared.number.Sn.{Sn}
+use Rattle.cesr_sn.specs.declared.Sn.{Sn}
 use Rattle.codec_cursor.specs.Readers.{Read, starting}
 use Rattle.registry_head.specs.HeadBytes.{headBytes}
 use Rattle.registry_room.specs.NextStates.{nextBytes}
-use Rattle.registry_room.specs.declared.next.NextState.{NextState}
+use Rattle.registry_room.specs.declared.NextState.{NextState}
 use Rattle.registry_state.specs.States.{Registry, registryBytes, readRegistry}
 use Rattle.registry_state_credential.specs.CredentialStates.{credentialBytes}
-use Rattle.registry_error.specs.declared.error.RegistryRejection.the-variants.{Malformed, ShortBuffer}
-use Rattle.registry_error.specs.declared.error.Answer.{Answer}
-use Rattle.registry_error.specs.declared.error.Answer.the-variants.{Accepted, Rejected}
+use Rattle.registry_error.specs.declared.RegistryRejection.the-variants.{Malformed, ShortBuffer}
+use Rattle.registry_error.specs.declared.Answer.{Answer}
+use Rattle.registry_error.specs.declared.Answer.the-variants.{Accepted, Rejected}
 use Rattle.registry_error.specs.Errors.{answerNumber}
 use Rattle.registry_answer.specs.Answers.{accepts, acceptIf, orElse}
 use Rattle.registry_inception.specs.InceptionFolds as N

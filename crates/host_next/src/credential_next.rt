@@ -1,8 +1,8 @@
 // The same of a credential state, which has 115 bytes. It is copied from where it stands: registry and credential from one slice, the digest of its last event from another.
-use cesr_sn::number::Sn;
+use cesr_sn::Sn;
 use host_report::report::report_sized;
 use registry_answer::answer::accept_if;
-use registry_error::error::RegistryRejection;
+use registry_error::RegistryRejection;
 use registry_head::head::copy_credential;
 ghost use mathlib.Core.Path.{_≡_};
 ghost use Rattle.host_next.specs.ByteFolds.{credentialCopied, called, callOf};

@@ -2,8 +2,8 @@
 use host_report::report::report_sized;
 use registry_answer::answer::accept_if;
 use registry_copy::copy::write_next;
-use registry_error::error::RegistryRejection;
-use registry_room::next::NextState;
+use registry_error::RegistryRejection;
+use registry_room::NextState;
 ghost use mathlib.Core.Path.{_≡_};
 ghost use Rattle.host_next.specs.ByteFolds.{nextFolded, called, callOf};
 

@@ -1,16 +1,16 @@
 // A state that has to be all of its bytes, and room for the next one.
-use codec_cursor::cursor::Cursor;
+use codec_cursor::Cursor;
 use host_report::report::report_answer;
 use registry_answer::answer::accept_if;
 use registry_answer::answer::or_else;
-use registry_error::error::Answer;
-use registry_error::error::RegistryRejection;
+use registry_error::Answer;
+use registry_error::RegistryRejection;
 ghost use mathlib.Core.Path.{_≡_};
 ghost use mathlib.Core.Bool.{_&&_};
 ghost use lib.Dec.{eqb, leb};
 ghost use lib.ListN.{length};
 ghost use Rattle.registry_answer.specs.Answers.{acceptIf, orElse};
-ghost use Rattle.registry_error.specs.declared.error.RegistryRejection.the-variants.{Malformed, ShortBuffer};
+ghost use Rattle.registry_error.specs.declared.RegistryRejection.the-variants.{Malformed, ShortBuffer};
 ghost use Rattle.host_report.specs.Reports.{rejectionReport};
 
 // Whether a reader has come to the end of the bytes.

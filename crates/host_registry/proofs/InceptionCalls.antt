@@ -6,17 +6,17 @@ use Prim.Native.Nat.{ℕ}
 use mathlib.Core.Path.{_≡_, ap, sym}
 use mathlib.Core.Bool.{true}
 use mathlib.Core.List.{List}
-use Rattle.codec_cursor.specs.declared.cursor.Cursor.{Cursor}
+use Rattle.codec_cursor.specs.declared.Cursor.{Cursor}
 use Rattle.codec_cursor.specs.Readers.{times}
 use Rattle.events_tel.specs.TelEvents.{snZero, membersIn}
 use Rattle.registry_members.specs.Updated.{survivors, updatedMembers}
 use Rattle.registry_room.specs.NextStates.{nextMembers, nextBytes}
-use Rattle.registry_room.specs.declared.next.NextState.{NextState}
+use Rattle.registry_room.specs.declared.NextState.{NextState}
 use Rattle.registry_state.specs.States.{registryBytes}
 use Rattle.registry_state.proofs.StateLoops.{registry-head}
 use Rattle.registry_answer.specs.Answers.{accepts}
 use Rattle.registry_inception.specs.InceptionFolds.{Outcome, inceptedAt, inceptionAt, inceptOf}
-use Rattle.registry_inception.specs.declared.registry.Inception.{Inception}
+use Rattle.registry_inception.specs.declared.Inception.{Inception}
 use Rattle.host_next.specs.ByteFolds.{nextFolded}
 use Rattle.host_next.proofs.Calls.{is-accepted}
 use Rattle.host_registry.specs.RegistryByteFolds.{registryIncept}

@@ -9,18 +9,18 @@ use mathlib.Core.List.{List}
 use mathlib.Core.Option.{some}
 use Rattle.cesr.specs.Primitives.{readMatter}
 use Rattle.events_tel.specs.TelEvents.{membersIn}
-use Rattle.events_tel.specs.declared.tel.Listed.{Listed}
+use Rattle.events_tel.specs.declared.Listed.{Listed}
 use Rattle.registry_room.specs.NextStates.{nextMembers, nextBytes}
-use Rattle.registry_room.specs.declared.next.NextState.{NextState}
+use Rattle.registry_room.specs.declared.NextState.{NextState}
 use Rattle.registry_state.specs.States.{Registry, registryBytes}
 use Rattle.registry_state.proofs.StateLoops.{registry-head}
 use Rattle.registry_management.specs.Managements.{viewManagement}
-use Rattle.registry_management.specs.declared.management.Management.{Management}
+use Rattle.registry_management.specs.declared.Management.{Management}
 use Rattle.registry_wire.specs.Attempts.{decodeOf}
 use Rattle.registry_answer.specs.Answers.{accepts}
 use Rattle.registry.specs.RegistryFolds.{ingestDecoded}
 use Rattle.registry_rotation_read.specs.Rotations.{rotatedAt, rotationAt}
-use Rattle.registry_rotation_read.specs.declared.rotation.RotationRead.{RotationRead}
+use Rattle.registry_rotation_read.specs.declared.RotationRead.{RotationRead}
 use Rattle.host_next.specs.ByteFolds.{registryIn, nextFolded}
 use Rattle.host_registry.specs.RegistryByteFolds.{registryIngest}
 use Rattle.host_next.proofs.Calls.{is-accepted}

@@ -1,18 +1,18 @@
 // A vcp and a vrt. The next state's bytes go to the start of `next`, each part from where it stands: no state is made as a value.
-use cesr_sn::number::Sn;
-use codec_cursor::cursor::Cursor;
-use events_tel::tel::Listed;
+use cesr_sn::Sn;
+use codec_cursor::Cursor;
+use events_tel::Listed;
 use host_next::registry_next::leave_next;
 use host_parts::part::is_whole;
 use host_parts::part::malformed;
 use host_report::report::report_answer;
 use registry_answer::answer::accepts;
-use registry_inception::registry::Inception;
+use registry_inception::Inception;
 use registry_inception::registry::incept_read;
-use registry_management::management::Management;
-use registry_management::management::read_management;
-use registry_room::next::NextState;
-use registry_rotation_read::rotation::RotationRead;
+use registry_management::Management;
+use registry_management::read_management;
+use registry_room::NextState;
+use registry_rotation_read::RotationRead;
 use registry_rotation_read::rotation::ingest_read;
 ghost use mathlib.Core.Path.{_≡_};
 ghost use Prim.Native.Nat.{ℕ};

@@ -11,10 +11,10 @@ use Rattle.laws.specs.Number.{digits}
 use Rattle.laws.specs.Room.{put}
 use Rattle.laws.proofs.Number.{length-digits}
 use Rattle.laws.proofs.Room.{put-sets, put-append}
-use Rattle.cesr_sn.specs.declared.number.Sn.{Sn}
+use Rattle.cesr_sn.specs.declared.Sn.{Sn}
 use Rattle.cesr_sn.specs.Numbers.{value, snBytes}
-use Rattle.registry_error.specs.declared.error.Answer.{Answer}
-use Rattle.registry_error.specs.declared.error.Answer.the-variants.{Accepted, Rejected}
+use Rattle.registry_error.specs.declared.Answer.{Answer}
+use Rattle.registry_error.specs.declared.Answer.the-variants.{Accepted, Rejected}
 use Rattle.host_report.specs.Reports.{reportBytes, reportWith}
 
 -- a run as long as the list stands in its place

@@ -5,9 +5,9 @@ use mathlib.Core.Bool.{cond}
 use lib.Dec.{eqb}
 use lib.ListN.{length, getD}
 use Rattle.laws.specs.Number.{digits}
-use Rattle.registry_error.specs.declared.error.RegistryRejection.{RegistryRejection}
-use Rattle.registry_error.specs.declared.error.Answer.{Answer}
-use Rattle.registry_error.specs.declared.error.Answer.the-variants.{Accepted, Rejected}
+use Rattle.registry_error.specs.declared.RegistryRejection.{RegistryRejection}
+use Rattle.registry_error.specs.declared.Answer.{Answer}
+use Rattle.registry_error.specs.declared.Answer.the-variants.{Accepted, Rejected}
 use Rattle.registry_disposition.specs.Dispositions.{letterOf, awaitedOf}
 use Rattle.registry_error.specs.Errors.{numberOf, dispositionOf, detailsOf}
 

@@ -1,10 +1,10 @@
 // Reports, written whole to a lent buffer of 36 bytes (docs/RULES.md, "Host's calls"). Each writer answers the number that it writes.
-use host_values::values::Values;
-use host_values::values::awaited;
-use host_values::values::details;
-use host_values::values::small;
-use registry_error::error::Answer;
-use registry_error::error::RegistryRejection;
+use host_values::Values;
+use host_values::awaited;
+use host_values::details;
+use host_values::small;
+use registry_error::Answer;
+use registry_error::RegistryRejection;
 ghost use mathlib.Core.Path.{_≡_};
 ghost use mathlib.Core.List.{[], _∷_};
 ghost use Prim.Native.Nat.{_≤_};

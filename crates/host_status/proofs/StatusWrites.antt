@@ -1,8 +1,8 @@
 -- The report of `status` has 36 bytes.
 use mathlib.Core.Path.{_≡_}
 use lib.ListN.{length}
-use Rattle.registry_credential.specs.declared.credential.StatusOutcome.{StatusOutcome}
-use Rattle.registry_credential.specs.declared.credential.StatusOutcome.the-variants as S
+use Rattle.registry_credential.specs.declared.StatusOutcome.{StatusOutcome}
+use Rattle.registry_credential.specs.declared.StatusOutcome.the-variants as S
 use Rattle.host_report.proofs.ReportWrites.{length-report}
 use Rattle.host_status.specs.StatusReports.{statusReport}
 

@@ -1,12 +1,12 @@
 -- The reports of `status` (docs/RULES.md, "Host's calls").
 use Prim.Native.Nat.{ℕ}
 use mathlib.Core.List.{List, []}
-use Rattle.registry_error.specs.declared.error.RegistryRejection.the-variants.{Malformed}
-use Rattle.registry_credential_error.specs.declared.credential_error.CredentialError.{CredentialError}
+use Rattle.registry_error.specs.declared.RegistryRejection.the-variants.{Malformed}
+use Rattle.registry_credential_error.specs.declared.CredentialError.{CredentialError}
 use Rattle.registry_disposition.specs.Dispositions.{letterOf, awaitedOf}
 use Rattle.registry_credential_error.specs.CredentialErrors.{errorNumber, errorDisposition}
-use Rattle.registry_credential.specs.declared.credential.StatusOutcome.{StatusOutcome}
-use Rattle.registry_credential.specs.declared.credential.StatusOutcome.the-variants as S
+use Rattle.registry_credential.specs.declared.StatusOutcome.{StatusOutcome}
+use Rattle.registry_credential.specs.declared.StatusOutcome.the-variants as S
 use Rattle.host_report.specs.Reports.{reportBytes, acceptedReport, rejectionReport}
 
 -- `status` gives no values, and its refusals have no details

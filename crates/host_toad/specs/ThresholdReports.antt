@@ -1,11 +1,11 @@
 -- The reports of thresholds (docs/RULES.md, "Host's calls").
 use Prim.Native.Nat.{ℕ}
 use mathlib.Core.List.{List, [], _∷_}
-use Rattle.events_toad.specs.declared.toad.ToadResult.{ToadResult}
-use Rattle.events_toad.specs.declared.toad.ToadResult.the-variants.{Valid, OutOfRange, Overflow}
-use Rattle.registry_error.specs.declared.error.RegistryRejection.the-variants.{BackerThreshold}
-use Rattle.registry_error.specs.declared.error.Answer.{Answer}
-use Rattle.registry_error.specs.declared.error.Answer.the-variants.{Accepted, Rejected}
+use Rattle.events_toad.specs.declared.ToadResult.{ToadResult}
+use Rattle.events_toad.specs.declared.ToadResult.the-variants.{Valid, OutOfRange, Overflow}
+use Rattle.registry_error.specs.declared.RegistryRejection.the-variants.{BackerThreshold}
+use Rattle.registry_error.specs.declared.Answer.{Answer}
+use Rattle.registry_error.specs.declared.Answer.the-variants.{Accepted, Rejected}
 use Rattle.host_report.specs.Reports.{reportWith}
 
 -- a threshold, or why there is none, as an answer; and its toad, 0 where there is none

@@ -1,11 +1,11 @@
 // Thresholds: `exact` reports no value, `ample` the toad.
-use events_toad::toad::Toad;
-use events_toad::toad::ToadResult;
+use events_toad::Toad;
+use events_toad::ToadResult;
 use host_report::report::report_with;
-use host_values::values::Values;
-use host_values::values::small;
-use registry_error::error::Answer;
-use registry_error::error::RegistryRejection;
+use host_values::Values;
+use host_values::small;
+use registry_error::Answer;
+use registry_error::RegistryRejection;
 ghost use mathlib.Core.Path.{_≡_};
 ghost use Rattle.events_toad.specs.Toads.{exactOf, ampleOf, toadNumber};
 ghost use Rattle.host_toad.specs.ThresholdReports.{thresholdAnswer, toadIn, exactReport, ampleReport};

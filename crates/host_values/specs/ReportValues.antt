@@ -2,8 +2,8 @@
 use Prim.Native.Nat.{ℕ}
 use mathlib.Core.List.{List, [], _∷_}
 use Rattle.cesr_sn.specs.Numbers.{value}
-use Rattle.host_values.specs.declared.values.Values.{Values}
-use Rattle.host_values.specs.declared.values.Values.the-variants.{Nothing, One, Two}
+use Rattle.host_values.specs.declared.Values.{Values}
+use Rattle.host_values.specs.declared.Values.the-variants.{Nothing, One, Two}
 
 -- what the code's values stand for
 abbrev pub valuesOf : Values → List ℕ

@@ -14,16 +14,16 @@ use lib.Dec.{eqb, leb}
 use lib.ListN.{length, take, getD}
 use lib.Seq.{sets, length-sets}
 use borrow.Author.Tests.{leb-true}
-use Rattle.cesr.specs.declared.primitive.Matter.{Matter}
+use Rattle.cesr.specs.declared.Matter.{Matter}
 use Rattle.cesr.specs.Primitives.{readMatter}
 use Rattle.registry_laws.specs.Pairs.{Pair}
 use Rattle.ledger_step.specs.Ledgers.{Ledger, lentLedger, sound, lookUp}
 use Rattle.ledger_image.specs.Images.{ImageAnswer, Written, imageNumber, ledgerBytes, writtenOf}
-use Rattle.ledger_standing.specs.declared.lookup.LookedUp.{LookedUp}
+use Rattle.ledger_standing.specs.declared.LookedUp.{LookedUp}
 use Rattle.ledger_standing.specs.Lookups.{keyPair, viewLookedUp}
-use Rattle.ledger_written.specs.declared.answer.Written as Code
+use Rattle.ledger_written.specs.declared.Written as Code
 use Rattle.ledger_written.specs.Writes.{viewWritten}
-use Rattle.ledger_table.specs.declared.table.Ledger as Value
+use Rattle.ledger_table.specs.declared.Ledger as Value
 use Rattle.ledger_table.specs.Tables.{viewLedger, ledgerAfter}
 use Rattle.images.specs.declared.answer.Facts.{Facts}
 use Rattle.images.specs.declared.answer.Image.{Image}

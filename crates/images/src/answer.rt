@@ -1,13 +1,13 @@
 // What comes of an image, and whether a record expects it.
-use cesr::primitive::Matter;
-use cesr::primitive::Said;
+use cesr::Matter;
+use cesr::Said;
 use cesr_number::number::read_u8;
 use cesr_number::number::read_u16;
 use cesr_number::number::read_u32;
 use ledger::ledger::look_up;
 use ledger::ledger::read_image;
 use ledger::ledger::write_image;
-use ledger_table::table::Ledger;
+use ledger_table::Ledger;
 ghost use mathlib.Core.Path.{_≡_};
 ghost use Prim.Native.Nat.{_≤_};
 ghost use Rattle.ledger_image.specs.Images.{imageOf, writtenOf};

@@ -11,7 +11,7 @@ use answer::Facts;
 use answer::agrees;
 use answer::answer;
 use cesr_number::number::read_u16;
-use ledger_table::table::Ledger;
+use ledger_table::Ledger;
 use libc::STDIN_FILENO;
 use libc::STDOUT_FILENO;
 use tally::Tally;

@@ -3,8 +3,8 @@
 --     fields                  of all four
 -- Assumes nothing.
 use mir.Syntax.{Ty, Tys, tcons, tnil, w64, tyInt, tyArray}
-use Rattle.registry_state.proofs.state.RegistryState.Laws as G′
-use Rattle.registry_state_credential.proofs.state.CredentialState.Laws as T′
+use Rattle.registry_state.proofs.RegistryState.Laws as G′
+use Rattle.registry_state_credential.proofs.CredentialState.Laws as T′
 
 abbrev pub word : Ty
 word = tyInt w64

@@ -8,16 +8,16 @@ use mir.Val.{Val, vstruct, ofList}
 use denote.Laws.{Is}
 use denote.Struct.Laws as LL
 use denote.Enum.Laws as EL
-use Rattle.registry_error.proofs.error.Answer as E
-use Rattle.registry_error.proofs.error.Answer.Laws as E′
-use Rattle.registry_error.specs.declared.error.Answer.{Answer}
-use Rattle.ledger_stores.specs.declared.call.Applied.{Applied}
-use Rattle.ledger_stores.proofs.call.Applied as B
-use Rattle.ledger_stores.proofs.call.Applied.Laws as B′
-use Rattle.ledger_table.specs.declared.table.Ledger.{Ledger}
-use Rattle.ledger.specs.declared.ledger.LedgerApplied.{LedgerApplied}
-use Rattle.ledger.proofs.ledger.LedgerApplied as N
-use Rattle.ledger.proofs.ledger.LedgerApplied.Laws as N′
+use Rattle.registry_error.proofs.Answer as E
+use Rattle.registry_error.proofs.Answer.Laws as E′
+use Rattle.registry_error.specs.declared.Answer.{Answer}
+use Rattle.ledger_stores.specs.declared.Applied.{Applied}
+use Rattle.ledger_stores.proofs.Applied as B
+use Rattle.ledger_stores.proofs.Applied.Laws as B′
+use Rattle.ledger_table.specs.declared.Ledger.{Ledger}
+use Rattle.ledger.specs.declared.LedgerApplied.{LedgerApplied}
+use Rattle.ledger.proofs.LedgerApplied as N
+use Rattle.ledger.proofs.LedgerApplied.Laws as N′
 use Rattle.ledger_table.proofs.Spelled.{spelled, Parts, same, within}
 
 abbrev pub spelled-call : Applied → Val

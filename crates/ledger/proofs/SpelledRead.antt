@@ -9,9 +9,9 @@ use mir.Val.{Val, vint, vstruct, ofList}
 use denote.Laws.{Is}
 use denote.Struct.Laws as LL
 use Rattle.ledger_table.proofs.Spelled.{spelled, Parts, same, within}
-use Rattle.ledger.specs.declared.ledger.LedgerRead.{LedgerRead}
-use Rattle.ledger.proofs.ledger.LedgerRead as N
-use Rattle.ledger.proofs.ledger.LedgerRead.Laws as N′
+use Rattle.ledger.specs.declared.LedgerRead.{LedgerRead}
+use Rattle.ledger.proofs.LedgerRead as N
+use Rattle.ledger.proofs.LedgerRead.Laws as N′
 
 abbrev pub spelled-read : LedgerRead → Val
 spelled-read r = vstruct (ofList (vint w8 (r .number) ∷ spelled (r .ledger) ∷ []))

@@ -1,13 +1,14 @@
 // A ledger as a value: both arrays with their counts (docs/RULES.md, "Ledger"). Each call lends the arrays to the call of that name over slices.
-use cesr::primitive::Said;
+use crate::LedgerApplied;
+use crate::LedgerRead;
+use cesr::Said;
 use ledger_apply::apply::apply as apply_lent;
 use ledger_lookup::lookup::look_up as look_up_lent;
 use ledger_read::read::read_image as read_lent;
-use ledger_standing::lookup::LookedUp;
-use ledger_table::table::Ledger;
+use ledger_standing::LookedUp;
+use ledger_table::Ledger;
 use ledger_write::write::write_image as write_lent;
-use ledger_written::answer::Written;
-use registry_error::error::Answer;
+use ledger_written::Written;
 ghost use mathlib.Core.Path.{_≡_};
 ghost use mathlib.Core.Bool.{false};
 ghost use Rattle.registry_answer.specs.Answers.{accepts};
@@ -18,18 +19,6 @@ ghost use Rattle.ledger_image.specs.Images.ImageAnswer.{refused};
 ghost use Rattle.ledger_standing.specs.Lookups.{keyPair, viewLookedUp};
 ghost use Rattle.ledger_written.specs.Writes.{viewWritten};
 ghost use Rattle.ledger_table.specs.Tables.{viewLedger, ledgerAfter};
-
-// What an attempt answers, and the ledger behind it, which after a refusal is the one that was handed in.
-pub struct LedgerApplied {
-    pub answer: Answer,
-    pub ledger: Ledger,
-}
-
-// What reading an image answers: 0 or the refusal 1, and the ledger, which after a refusal is the one that was handed in.
-pub struct LedgerRead {
-    pub number: u8,
-    pub ledger: Ledger,
-}
 
 // One attempt. After a refusal the ledger is the one that was handed in, whatever stands in its arrays.
 pub fn apply(held: Ledger, attempt: &[u8]) -> LedgerApplied

@@ -4,8 +4,8 @@ use mathlib.Core.Bool.{Bool, not}
 use mathlib.Core.List.{[], _∷_}
 use lib.Dec.{eqb, ltb}
 use Rattle.registry_answer.specs.Answers.{acceptIf, firstOf}
-use Rattle.registry_error.specs.declared.error.Answer.{Answer}
-use Rattle.registry_error.specs.declared.error.RegistryRejection.the-variants.{Malformed, MissingRegistry, DuplicateInception, AlreadyIssued, MissingCredentialState, InconsistentRegistry, NoRoom}
+use Rattle.registry_error.specs.declared.Answer.{Answer}
+use Rattle.registry_error.specs.declared.RegistryRejection.the-variants.{Malformed, MissingRegistry, DuplicateInception, AlreadyIssued, MissingCredentialState, InconsistentRegistry, NoRoom}
 
 -- before every fold: 1 of a ledger that breaks a reading rule, 1 of bytes that are no attempt, 10 of an attempt that asks nothing
 unfoldable pub askedAnswer : Bool → Bool → ℕ → Answer

@@ -2,8 +2,8 @@
 use registry_answer::answer::accept_if;
 use registry_answer::answer::accepts;
 use registry_answer::answer::or_else;
-use registry_error::error::Answer;
-use registry_error::error::RegistryRejection;
+use registry_error::Answer;
+use registry_error::RegistryRejection;
 ghost use mathlib.Core.Path.{_≡_};
 ghost use Rattle.ledger_answers.specs.Checks.{askedAnswer, inceptionAnswer, rotationAnswer, issueAnswer, revocationAnswer};
 

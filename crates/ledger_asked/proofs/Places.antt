@@ -10,10 +10,10 @@ use native.Mathlib.Nat.{add-assoc}
 use lib.Dec.{eqb}
 use Rattle.laws.specs.Number.{numberAt}
 use Rattle.cesr.specs.Primitives.{saidAt}
-use Rattle.cesr.specs.declared.primitive.Said.{Said}
-use Rattle.events_seal.specs.declared.seal.Seal.{Seal}
-use Rattle.events_seal.specs.declared.seal.Seal.the-variants.{Digest, Root, Source, Last, Back, Kind, Opaque}
-use Rattle.codec_cursor.specs.declared.cursor.Cursor.{Cursor}
+use Rattle.cesr.specs.declared.Said.{Said}
+use Rattle.events_seal.specs.declared.Seal.{Seal}
+use Rattle.events_seal.specs.declared.Seal.the-variants.{Digest, Root, Source, Last, Back, Kind, Opaque}
+use Rattle.codec_cursor.specs.declared.Cursor.{Cursor}
 use Rattle.codec_cursor.specs.Readers.{Read, Reader, starting, placed, need, readByte, readByteIf, readIf, readIdentifier, readSaid, counted, both, after, ended}
 use Rattle.codec.specs.Events.{vcpOf, vrtOf, issOf, revOf, bisOf, brvOf, sealOf, readEventSeal, readOtherSeal, readSeal, readVcp, readVrt, readIss, readRev, readBis, readBrv, readKind, readEvent}
 use Rattle.events_tel.specs.TelEvents.{Event}
@@ -21,7 +21,7 @@ use Rattle.codec_laws.proofs.Stands.{went, passed}
 use Rattle.codec_laws.proofs.Sticky.{Sticky, sticky-both, sticky-number, sticky-said, sticky-identifier, sticky-counted, sticky-after, sticky-ended, sticky-toad, sticky-configs, sticky-prefixes, sticky-event-seal, sticky-seal}
 use Rattle.registry_state.specs.States.{noSaid}
 use Rattle.registry_laws.specs.Pairs.{pairIn}
-use Rattle.ledger_asked.specs.declared.call.Named.{Named}
+use Rattle.ledger_asked.specs.declared.Named.{Named}
 use Rattle.ledger_asked.specs.Names.{about, namedPair, namedEvent, namedAt, pairAt, namedBy, headNamed}
 
 -- a reader that takes n bytes

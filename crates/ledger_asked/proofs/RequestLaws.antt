@@ -17,9 +17,9 @@ use Rattle.events_tel.specs.TelEvents.{Event}
 use Rattle.events_tel.specs.TelEvents.Event.{vcp, vrt, iss, rev, bis, brv}
 use Rattle.registry_wire.specs.Attempts.{Message, Decoded, readMessage, decodeOf, viewAttempt, viewDecoded}
 use Rattle.registry_wire.specs.Attempts.Decoded.{malformed, decoded}
-use Rattle.registry_wire.specs.declared.attempt.DecodedAttempt.{DecodedAttempt}
+use Rattle.registry_wire.specs.declared.DecodedAttempt.{DecodedAttempt}
 use Rattle.registry_wire.proofs.StickyAttempt.{sticky-sections}
-use Rattle.registry_error.specs.declared.error.RegistryRejection.the-variants.{Malformed}
+use Rattle.registry_error.specs.declared.RegistryRejection.the-variants.{Malformed}
 use Rattle.registry_laws.specs.Pairs.{Pair, pairIn}
 use Rattle.ledger_step.specs.Steps.{revocationOf, eventRequest, decodedRequest, requestOf}
 use Rattle.ledger_step.specs.Steps.Request.{nothing}

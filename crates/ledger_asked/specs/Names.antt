@@ -5,7 +5,7 @@ use mathlib.Core.List.{List, [], _∷_}
 use lib.Dec.{eqb}
 use Rattle.laws.specs.Number.{numberAt}
 use Rattle.cesr.specs.Primitives.{readMatter, saidAt}
-use Rattle.cesr.specs.declared.primitive.Said.{Said}
+use Rattle.cesr.specs.declared.Said.{Said}
 use Rattle.events_seal.specs.Identifiers.{identifierOf}
 use Rattle.events_tel.specs.TelEvents.{Event}
 use Rattle.events_tel.specs.TelEvents.Event.{vcp, vrt, iss, rev, bis, brv}
@@ -16,7 +16,7 @@ use Rattle.registry_wire.specs.Attempts.Decoded.{malformed, decoded}
 use Rattle.registry_laws.specs.Pairs.{Pair, pairUnder, pairIn}
 use Rattle.ledger_step.specs.Steps.{Request}
 use Rattle.ledger_step.specs.Steps.Request.{nothing, inception, rotation, issue, revocation}
-use Rattle.ledger_asked.specs.declared.call.Named.{Named}
+use Rattle.ledger_asked.specs.declared.Named.{Named}
 
 -- the kind of fold and what it is about: a blank said where there is no credential
 abbrev pub about : ℕ → Said → Said → Named

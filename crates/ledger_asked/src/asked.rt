@@ -1,9 +1,9 @@
 // What an attempt asks of the ledger (docs/RULES.md, "Ledger"). In an attempt's bytes the kind tells the places of the names, so nothing is decoded for them: that is the fold's to do.
-use crate::call::Named;
-use cesr::primitive::Matter;
-use cesr::primitive::Said;
+use crate::Named;
+use cesr::Matter;
+use cesr::Said;
 use cesr_number::number::read_u8;
-use registry_wire::attempt::Attempt;
+use registry_wire::Attempt;
 ghost use mathlib.Core.Path.{_≡_};
 ghost use mathlib.Core.List.{[]};
 ghost use Rattle.ledger_asked.specs.Names.{about, namedPair, namedAt, pairAt, headNamed, decodes};

@@ -12,10 +12,10 @@ use lib.Dec.{ltb}
 use lib.ListN.{length, length-map, length-take, getD, take}
 use lib.Seq.{getD-take}
 use Rattle.cesr.specs.Primitives.{eqSaid}
-use Rattle.cesr.specs.declared.primitive.Said.{Said}
+use Rattle.cesr.specs.declared.Said.{Said}
 use Rattle.registry_state_credential.specs.CredentialStates.{noCredential}
-use Rattle.registry_state.specs.declared.state.RegistryState.{RegistryState}
-use Rattle.registry_state_credential.specs.declared.state.CredentialState.{CredentialState}
+use Rattle.registry_state.specs.declared.RegistryState.{RegistryState}
+use Rattle.registry_state_credential.specs.declared.CredentialState.{CredentialState}
 use Rattle.registry_state.proofs.StateLoops.{all-pass, all-fail}
 use Rattle.ledger_step.specs.Ledgers.{Held, heldOf, idOf, hasRegistry}
 use Rattle.ledger_step.proofs.PlaceLaws.{has-place}

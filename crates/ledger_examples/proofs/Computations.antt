@@ -16,7 +16,7 @@ use Rattle.registry_signatures.specs.SignatureSections.{goodSignature}
 use Rattle.registry_state_credential.specs.CredentialStates.{wellCredential}
 use Rattle.registry_source.specs.Sources.{goodSource}
 use Rattle.registry_wire.specs.Attempts.{goodMessage, goodAnchors, goodAnchor}
-use Rattle.registry_error.specs.declared.error.RegistryRejection.the-variants.{Malformed}
+use Rattle.registry_error.specs.declared.RegistryRejection.the-variants.{Malformed}
 use Rattle.registry_answer.specs.Answers.{acceptIf, firstOf}
 use Rattle.registry_verification.specs.Receipts.{hasGood, receipts}
 use Rattle.registry_verification.specs.Sequence.{nextSn}

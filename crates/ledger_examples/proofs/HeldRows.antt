@@ -19,9 +19,9 @@ use Rattle.events_tel.specs.Configs.{noBackers, hasCode}
 use Rattle.events_tel.specs.TelEvents.{snZero}
 use Rattle.codec.specs.Layout.{all}
 use Rattle.registry_state_credential.specs.CredentialStates.{wellCredential}
-use Rattle.registry_state_credential.specs.declared.state.CredentialState.{CredentialState}
+use Rattle.registry_state_credential.specs.declared.CredentialState.{CredentialState}
 use Rattle.registry_answer.specs.Answers.{acceptIf, firstOf}
-use Rattle.registry_error.specs.declared.error.RegistryRejection.the-variants.{NoRoom}
+use Rattle.registry_error.specs.declared.RegistryRejection.the-variants.{NoRoom}
 use Rattle.registry_authentication.specs.Issuers.{authenticateIssuer}
 use Rattle.registry_issue.specs.IssueFolds as I
 use Rattle.registry_laws.specs.ReadingRules.{soundRegistry}

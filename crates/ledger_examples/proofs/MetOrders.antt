@@ -14,7 +14,7 @@ use Rattle.codec.specs.Layout.{sixSections, eventBytes}
 use Rattle.registry_wire.specs.Attempts.{Decoded, attemptBytes, decodeOf}
 use Rattle.registry_wire.specs.Attempts.Decoded.{malformed, decoded}
 use Rattle.registry_wire.proofs.CodesAttempt.{decodes}
-use Rattle.registry_error.specs.declared.error.RegistryRejection.the-variants.{Malformed}
+use Rattle.registry_error.specs.declared.RegistryRejection.the-variants.{Malformed}
 use Rattle.ledger_step.specs.Steps.{decodedRequest, requestOf}
 use Rattle.ledger_step.specs.Steps.Request.{nothing}
 use Rattle.ledger_step.specs.Orders.{Each, Matched, KeepsOrder}

@@ -3,7 +3,7 @@
 use Prim.Native.Nat.{ℕ, zero, suc}
 use mathlib.Core.List.{List, [], _∷_}
 use Rattle.events_tel.specs.TelEvents.{snZero, snOne}
-use Rattle.registry_state_credential.specs.declared.state.CredentialState.{CredentialState}
+use Rattle.registry_state_credential.specs.declared.CredentialState.{CredentialState}
 use Rattle.registry_wire.specs.Attempts.{Message, attemptBytes}
 use Rattle.ledger_step.specs.Ledgers.{Ledger}
 use Rattle.ledger_examples.specs.Conditions.{Condition, Needed, Met}

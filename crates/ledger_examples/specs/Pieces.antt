@@ -3,16 +3,16 @@ use Prim.Native.Nat.{ℕ}
 use mathlib.Core.Bool.{true}
 use mathlib.Core.List.{List, [], _∷_, map}
 use lib.ListN.{length}
-use Rattle.cesr_sn.specs.declared.number.Sn.{Sn}
-use Rattle.cesr.specs.declared.primitive.Matter.{Matter}
-use Rattle.cesr.specs.declared.primitive.Said.{Said}
-use Rattle.cesr.specs.declared.primitive.BasicPrefix.{BasicPrefix}
+use Rattle.cesr_sn.specs.declared.Sn.{Sn}
+use Rattle.cesr.specs.declared.Matter.{Matter}
+use Rattle.cesr.specs.declared.Said.{Said}
+use Rattle.cesr.specs.declared.BasicPrefix.{BasicPrefix}
 use Rattle.events_tel.specs.TelEvents.{Event, snZero, snOne}
 use Rattle.events_tel.specs.TelEvents.Event.{vcp, vrt, iss, rev, bis}
-use Rattle.events_seal.specs.declared.identifier.Identifier.the-variants.{SelfAddressing}
-use Rattle.events_seal.specs.declared.seal.Seal.the-variants.{Event as EventSeal}
+use Rattle.events_seal.specs.declared.Identifier.the-variants.{SelfAddressing}
+use Rattle.events_seal.specs.declared.Seal.the-variants.{Event as EventSeal}
 use Rattle.registry_state.specs.States.{Registry}
-use Rattle.registry_state_credential.specs.declared.state.CredentialState.{CredentialState}
+use Rattle.registry_state_credential.specs.declared.CredentialState.{CredentialState}
 use Rattle.registry_wire.specs.Attempts.{Evidence, Message}
 use Rattle.registry_wire.specs.Attempts.Evidence.{issuer, backer}
 use Rattle.ledger_step.specs.Ledgers.{Ledger}

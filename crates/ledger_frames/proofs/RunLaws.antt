@@ -16,7 +16,7 @@ use Rattle.laws.specs.Number.{number, numberAt, Bytes}
 use Rattle.laws.specs.Room.{room}
 use Rattle.laws.proofs.Number.{number-below, whole-number}
 use Rattle.laws.proofs.Room.{room-true, room-false, true-room, false-room}
-use Rattle.ledger_frames.specs.declared.framing.Run.{Run}
+use Rattle.ledger_frames.specs.declared.Run.{Run}
 use Rattle.ledger_frames.specs.Frames.{framesIn, framesOf}
 use Rattle.ledger_frames.specs.Runs.{sizeOf, startOf, tookOf, finishOf, turnsOf, runOf, numbered, outcomeFrom}
 use Rattle.ledger_frames.specs.Printed.{Answering, linesOf, afterAll, printedOf, takenLines, afterTaken, runPrints}

@@ -7,8 +7,8 @@ use lib.Dec.{ltb, leb}
 use lib.ListN.{length, take, drop}
 use Rattle.laws.specs.Number.{numberAt}
 use Rattle.laws.specs.Room.{room}
-use Rattle.ledger_frames.specs.declared.framing.Size.{Size}
-use Rattle.ledger_frames.specs.declared.framing.Run.{Run}
+use Rattle.ledger_frames.specs.declared.Size.{Size}
+use Rattle.ledger_frames.specs.declared.Run.{Run}
 use Rattle.ledger_frames.specs.Frames.{Frames}
 
 -- the two-byte number of what was read for it

@@ -1,17 +1,13 @@
 // How the program's input is cut in attempts (docs/RULES.md, "What the program prints"). The input may be of any length, so it is
 // read piece by piece: two bytes for the count, then two bytes and a body for each attempt. What each piece means is decided here.
+use crate::Run;
+use crate::Size;
 use cesr_number::number::has_room;
 use cesr_number::number::read_u16;
 ghost use mathlib.Core.Path.{_≡_};
 ghost use Prim.Native.Nat.{_-_, _≤_};
 ghost use lib.Dec.{ltb};
 ghost use Rattle.ledger_frames.specs.Runs.{sizeOf, startOf, tookOf, finishOf};
-
-// A count or a length, from the bytes that were read for it; where two did not arrive it is 0 and not ok.
-pub struct Size {
-    pub ok: bool,
-    pub size: usize,
-}
 
 pub fn read_size(s: &[u8]) -> Size
     ensures { λ r. ⌜ r ≡ sizeOf (now (s .entry)) ⌝ }
@@ -21,13 +17,6 @@ pub fn read_size(s: &[u8]) -> Size
         ok: has_room(s.len(), 0, 2),
         size: read_u16(s, 0) as usize,
     }
-}
-
-// How far the input is read: the attempts that it counts, those of them that are still to come, and whether it is broken.
-pub struct Run {
-    pub count: usize,
-    pub left: usize,
-    pub broken: bool,
 }
 
 impl Run {

@@ -17,7 +17,7 @@ use Rattle.codec_laws.proofs.Codes.{Codes, codes-both}
 use Rattle.codec_laws.proofs.CodesRound.{whole-sound, whole-complete}
 use Rattle.registry_state.specs.States.{Registry, registryBytes, goodRegistry, readRegistry}
 use Rattle.registry_state_credential.specs.CredentialStates.{credentialBytes, goodCredential, readCredential}
-use Rattle.registry_state_credential.specs.declared.state.CredentialState.{CredentialState}
+use Rattle.registry_state_credential.specs.declared.CredentialState.{CredentialState}
 use Rattle.registry_state.proofs.CodesState.{codes-registry}
 use Rattle.registry_state_credential.proofs.CodesCredential.{codes-credential}
 use Rattle.ledger_step.specs.Ledgers.{sound}

@@ -13,7 +13,7 @@ use lib.Dec.{eqb, leb, lit<}
 use lib.ListN.{length, length-append}
 use Rattle.laws.specs.Number.{numberAt, digits}
 use Rattle.laws.proofs.Tests.{and-left, and-right}
-use Rattle.codec_cursor.specs.declared.cursor.Cursor.{Cursor}
+use Rattle.codec_cursor.specs.declared.Cursor.{Cursor}
 use Rattle.codec_cursor.specs.Readers.{placed, Reader, advanced, times}
 use Rattle.codec.specs.Layout.{joined, all}
 use Rattle.codec_laws.proofs.Stands.{Stands, stands-join, stands-first, stands-rest, passed, stays}

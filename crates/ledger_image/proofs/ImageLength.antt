@@ -18,7 +18,7 @@ use Rattle.codec.specs.Events.{isConfig}
 use Rattle.codec.specs.Layout.{joined, all, goodSaid, goodIdentifier, goodSn, goodToad, goodConfigs, goodPrefixes}
 use Rattle.registry_state.specs.States.{Registry, registryBytes, goodRegistry}
 use Rattle.registry_state_credential.specs.CredentialStates.{credentialBytes}
-use Rattle.registry_state_credential.specs.declared.state.CredentialState.{CredentialState}
+use Rattle.registry_state_credential.specs.declared.CredentialState.{CredentialState}
 use Rattle.registry_state.proofs.StateLoops.{length-registry}
 use Rattle.registry_state_credential.proofs.CodesCredential.{length-credential}
 use Rattle.ledger_image.specs.Images.{wideBytes, registrySection, credentialSection, imageBytes, goodRegistries, goodCredentials, goodImage, summed, registrySize}

@@ -16,8 +16,8 @@ use Rattle.codec.specs.Layout.{all}
 use Rattle.codec_laws.proofs.Codes.{and-true}
 use Rattle.registry_state.specs.States.{Registry, goodRegistry, viewRegistry, wellRegistry, rangedRegistry}
 use Rattle.registry_state_credential.specs.CredentialStates.{goodCredential, wellCredential, rangedCredential}
-use Rattle.registry_state.specs.declared.state.RegistryState.{RegistryState}
-use Rattle.registry_state_credential.specs.declared.state.CredentialState.{CredentialState}
+use Rattle.registry_state.specs.declared.RegistryState.{RegistryState}
+use Rattle.registry_state_credential.specs.declared.CredentialState.{CredentialState}
 use Rattle.registry_state.proofs.CodesState.{registry-good}
 use Rattle.registry_state_credential.proofs.CodesCredential.{credential-good}
 use Rattle.ledger_step.specs.Ledgers.{Held, Ledger, heldOf, keepsLayout, sound}

@@ -11,7 +11,7 @@ use Rattle.codec_cursor.specs.Readers.{Reader, starting, advanced, need, both, 
 use Rattle.codec.specs.Layout.{joined, all}
 use Rattle.registry_state.specs.States.{Registry, registryBytes, goodRegistry, readRegistry}
 use Rattle.registry_state_credential.specs.CredentialStates.{credentialBytes, goodCredential, readCredential}
-use Rattle.registry_state_credential.specs.declared.state.CredentialState.{CredentialState}
+use Rattle.registry_state_credential.specs.declared.CredentialState.{CredentialState}
 use Rattle.ledger_step.specs.Ledgers.{Held, Ledger, sound}
 use Rattle.ledger_step.specs.Steps.{heldNow}
 

@@ -1,8 +1,8 @@
 // The counts of an image's sections (docs/RULES.md, "Image").
 use cesr_number::number::read_u16;
 use cesr_number::number::write_u16;
-use codec::section::CountRead;
-use codec_cursor::cursor::Cursor;
+use codec::CountRead;
+use codec_cursor::Cursor;
 ghost use mathlib.Core.Path.{_≡_};
 ghost use Rattle.laws.specs.Number.{digits};
 ghost use Rattle.laws.specs.Room.{room, put};

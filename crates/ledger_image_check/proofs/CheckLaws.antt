@@ -13,14 +13,14 @@ use borrow.Author.Tests.{le-leb}
 use lib.Dec.{eqb, leb}
 use lib.ListN.{length, length-map}
 use Rattle.laws.proofs.Tests.{and-left}
-use Rattle.cesr.specs.declared.primitive.Said.{Said}
-use Rattle.codec_cursor.specs.declared.cursor.Cursor.{Cursor}
+use Rattle.cesr.specs.declared.Said.{Said}
+use Rattle.codec_cursor.specs.declared.Cursor.{Cursor}
 use Rattle.codec_cursor.specs.Readers.{Read, starting, placed, times}
 use Rattle.codec.specs.Layout.{all}
 use Rattle.codec_laws.proofs.Codes.{and-true}
 use Rattle.registry_state.specs.States.{Registry, readRegistry}
 use Rattle.registry_state_credential.specs.CredentialStates.{readCredential, wellCredential}
-use Rattle.registry_state_credential.specs.declared.state.CredentialState.{CredentialState}
+use Rattle.registry_state_credential.specs.declared.CredentialState.{CredentialState}
 use Rattle.registry_laws.specs.Pairs.{keyOf}
 use Rattle.ledger_step.specs.Tables.{distinct}
 use Rattle.ledger_step.specs.Ledgers.{holds, eqPair, hasRegistry, zeroOrOne, rowRules, sound}

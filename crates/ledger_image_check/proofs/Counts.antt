@@ -13,7 +13,7 @@ use borrow.Author.Tests.{leb-true}
 use lib.Dec.{leb}
 use lib.ListN.{length, length-append}
 use Rattle.laws.specs.Number.{numberAt}
-use Rattle.codec_cursor.specs.declared.cursor.Cursor.{Cursor}
+use Rattle.codec_cursor.specs.declared.Cursor.{Cursor}
 use Rattle.codec_cursor.specs.Readers.{Read, Reader, placed, advanced, need, times}
 use Rattle.codec_laws.proofs.Stands.{passed, went}
 use Rattle.ledger_image.specs.Images.{wideCount, wideSection}

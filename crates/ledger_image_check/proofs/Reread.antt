@@ -8,11 +8,11 @@ use native.Mathlib.Omega.{arith}
 use lib.Dec.{eqb}
 use lib.ListN.{length}
 use Rattle.laws.proofs.Tests.{and-left}
-use Rattle.codec_cursor.specs.declared.cursor.Cursor.{Cursor}
+use Rattle.codec_cursor.specs.declared.Cursor.{Cursor}
 use Rattle.codec_cursor.specs.Readers.{Read, starting, placed, times}
 use Rattle.registry_state.specs.States.{Registry, readRegistry}
 use Rattle.registry_state_credential.specs.CredentialStates.{readCredential}
-use Rattle.registry_state_credential.specs.declared.state.CredentialState.{CredentialState}
+use Rattle.registry_state_credential.specs.declared.CredentialState.{CredentialState}
 use Rattle.ledger_step.specs.Ledgers.{sound}
 use Rattle.ledger_image.specs.Images.{wideCount, wideSection, readRegistries, readCredentials, ledgerOf, imageOf}
 use Rattle.ledger_image.specs.Images.ImageAnswer.{held, refused}

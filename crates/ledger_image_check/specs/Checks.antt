@@ -4,15 +4,15 @@ use mathlib.Core.Bool.{Bool, true, false, not, _&&_}
 use mathlib.Core.List.{List, map}
 use lib.ListN.{length}
 use Rattle.cesr.specs.Primitives.{eqSaid}
-use Rattle.cesr.specs.declared.primitive.Said.{Said}
-use Rattle.codec_cursor.specs.declared.cursor.Cursor.{Cursor}
+use Rattle.cesr.specs.declared.Said.{Said}
+use Rattle.codec_cursor.specs.declared.Cursor.{Cursor}
 use Rattle.codec_cursor.specs.Readers.{starting, times}
 use Rattle.registry_state.specs.States.{Registry, readRegistry}
 use Rattle.registry_laws.specs.ReadingRules.{soundRegistry}
 use Rattle.ledger_step.specs.Tables.{has}
 use Rattle.ledger_image.specs.Images.{ImageAnswer, wideCount, readRegistries, imageOf}
 use Rattle.ledger_image.specs.Images.ImageAnswer.{refused, held}
-use Rattle.ledger_image_check.specs.declared.image.Checked.{Checked}
+use Rattle.ledger_image_check.specs.declared.Checked.{Checked}
 
 -- what a check answers: whether the image is a ledger's, its counts, and the byte at which the first row stands
 pub record ImageCheck : Type 0 where

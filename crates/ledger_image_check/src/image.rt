@@ -1,17 +1,10 @@
 // The check of an image. It stores nothing: what it answers is enough to read the states of an image that passes where they stand.
+use crate::Checked;
 use crate::registries::check_registries;
 use ledger_image::image::read_count;
 use ledger_image_rows_check::rows::check_rows;
 ghost use mathlib.Core.Path.{_≡_};
 ghost use Rattle.ledger_image_check.specs.Checks.{viewChecked, checkedOf};
-
-// Whether the image is one of a ledger, how many registries and rows it has, and the byte at which its first row stands. The registries stand from byte 2 on. Of an image that is refused the three numbers are 0.
-pub struct Checked {
-    pub ok: bool,
-    pub registries: usize,
-    pub rows_at: usize,
-    pub rows: usize,
-}
 
 pub fn check_image(image: &[u8]) -> Checked
     ensures { λ r. ⌜ viewChecked r ≡ checkedOf (now (image .entry)) ⌝ }

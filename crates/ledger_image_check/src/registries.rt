@@ -1,22 +1,16 @@
 // The registries of an image: each is read, and held to the reading rules that speak of registries alone.
-use codec_cursor::cursor::Cursor;
+use crate::SectionRead;
+use codec_cursor::Cursor;
 use ledger_image::image::read_count;
-use ledger_image_ids::ids::Ids;
+use ledger_image_ids::Ids;
 use ledger_registry_rules::rules::registry_sound;
-use registry_state::state::RegistryState;
+use registry_state::RegistryState;
 ghost use mathlib.Core.Path.{_≡_};
 ghost use mathlib.Core.List.{map};
 ghost use Rattle.codec_cursor.specs.Readers.{starting};
 ghost use Rattle.ledger_image.specs.Images.{readRegistries};
 ghost use Rattle.ledger_image_ids.specs.IdLists.{viewIds};
 ghost use Rattle.ledger_image_check.specs.Checks.{idIn, sectionPasses};
-
-// The registries' section as it was read: whether every registry passes, the ids, and the cursor behind the section.
-pub struct SectionRead {
-    pub ok: bool,
-    pub ids: Ids,
-    pub next: Cursor,
-}
 
 // A registry passes where it is there, keeps the rules of one registry, and has the id of none before it.
 pub(crate) fn check_registries(s: &[u8]) -> SectionRead

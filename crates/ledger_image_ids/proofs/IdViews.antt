@@ -11,10 +11,10 @@ use borrow.Author.Tests.{lt-ltb, le-ltb}
 use lib.ListN.{length, getD, set, take}
 use Rattle.laws.proofs.Views.{kept-size, kept-at, kept-push, take-step}
 use Rattle.cesr.specs.Primitives.{eqSaid}
-use Rattle.cesr.specs.declared.primitive.Said.{Said}
+use Rattle.cesr.specs.declared.Said.{Said}
 use Rattle.registry_state.specs.States.{noSaid}
 use Rattle.ledger_step.specs.Tables.{has}
-use Rattle.ledger_image_ids.specs.declared.ids.Ids.{Ids}
+use Rattle.ledger_image_ids.specs.declared.Ids.{Ids}
 use Rattle.ledger_image_ids.specs.IdLists.{viewIds, idAt, pushed}
 use Rattle.ledger_image_ids.proofs.OneMore.{has-snoc}
 

@@ -4,9 +4,9 @@ use mathlib.Core.Bool.{cond}
 use mathlib.Core.List.{List, [], _∷_, _++_}
 use lib.Dec.{ltb}
 use lib.ListN.{length, getD, take}
-use Rattle.cesr.specs.declared.primitive.Said.{Said}
+use Rattle.cesr.specs.declared.Said.{Said}
 use Rattle.registry_state.specs.States.{noSaid}
-use Rattle.ledger_image_ids.specs.declared.ids.Ids.{Ids}
+use Rattle.ledger_image_ids.specs.declared.Ids.{Ids}
 
 -- the array's elements before the count
 unfoldable pub viewIds : Ids → List Said

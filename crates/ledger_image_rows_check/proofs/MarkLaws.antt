@@ -14,10 +14,10 @@ use lib.Seq.{getD-set-same, getD-set-other}
 use Rattle.laws.specs.Number.{numberAt}
 use Rattle.cesr_sn.specs.Numbers.{value}
 use Rattle.cesr.specs.Primitives.{eqSaid}
-use Rattle.cesr.specs.declared.primitive.Said.{Said}
+use Rattle.cesr.specs.declared.Said.{Said}
 use Rattle.codec_cursor.specs.Readers.{Read, placed}
 use Rattle.registry_state_credential.specs.CredentialStates.{readCredential}
-use Rattle.registry_state_credential.specs.declared.state.CredentialState.{CredentialState}
+use Rattle.registry_state_credential.specs.declared.CredentialState.{CredentialState}
 use Rattle.registry_laws.specs.Pairs.{Pair, keyOf}
 use Rattle.ledger_step.specs.Tables.{has}
 use Rattle.ledger_step.specs.Ledgers.{eqPair}

@@ -18,16 +18,16 @@ use Rattle.laws.proofs.Number.{whole-number}
 use Rattle.laws.proofs.Room.{true-room}
 use Rattle.cesr_sn.specs.Numbers.{value}
 use Rattle.cesr.specs.Primitives.{eqSaid, isSaid, readMatter, eqMatter}
-use Rattle.cesr.specs.declared.primitive.Matter.{Matter}
-use Rattle.cesr.specs.declared.primitive.Said.{Said}
-use Rattle.codec_cursor.specs.declared.cursor.Cursor.{Cursor}
+use Rattle.cesr.specs.declared.Matter.{Matter}
+use Rattle.cesr.specs.declared.Said.{Said}
+use Rattle.codec_cursor.specs.declared.Cursor.{Cursor}
 use Rattle.codec_cursor.specs.Readers.{Read, placed, advanced, saidOf, readIf, readSaid, readNumber, times}
 use Rattle.codec.specs.Layout.{all}
 use Rattle.codec_laws.proofs.Stands.{went, passed}
 use Rattle.codec_laws.proofs.Codes.{and-true}
 use Rattle.codec_laws.proofs.CodesList.{all-snoc}
 use Rattle.registry_state_credential.specs.CredentialStates.{readCredential, wellCredential}
-use Rattle.registry_state_credential.specs.declared.state.CredentialState.{CredentialState}
+use Rattle.registry_state_credential.specs.declared.CredentialState.{CredentialState}
 use Rattle.registry_laws.specs.Pairs.{Pair, keyOf}
 use Rattle.ledger_step.specs.Tables.{has, distinct}
 use Rattle.ledger_step.specs.Ledgers.{eqPair, hasRegistry, zeroOrOne}

@@ -5,7 +5,7 @@ use mathlib.Core.List.{List, [], _∷_, _++_}
 use lib.Dec.{leb, eqb}
 use lib.ListN.{length}
 use Rattle.cesr.specs.Primitives.{readMatter}
-use Rattle.cesr.specs.declared.primitive.Said.{Said}
+use Rattle.cesr.specs.declared.Said.{Said}
 use Rattle.codec_cursor.specs.Readers.{placed, saidOf}
 use Rattle.registry_state_credential.specs.CredentialStates.{readCredential}
 use Rattle.registry_laws.specs.Pairs.{Pair, keyOf}

@@ -1,10 +1,10 @@
 // The rows of an image, each of 115 bytes: read where they stand, and held to the reading rules that speak of rows.
-use cesr::primitive::Matter;
+use cesr::Matter;
 use cesr_number::number::read_u64;
-use cesr_sn::number::Sn;
-use codec_cursor::cursor::Cursor;
-use ledger_image_ids::ids::Ids;
-use registry_state_credential::state::CredentialState;
+use cesr_sn::Sn;
+use codec_cursor::Cursor;
+use ledger_image_ids::Ids;
+use registry_state_credential::CredentialState;
 ghost use mathlib.Core.Path.{_≡_};
 ghost use Prim.Native.Nat.{_+_, _*_, _≤_};
 ghost use lib.ListN.{length};

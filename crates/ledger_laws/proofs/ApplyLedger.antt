@@ -6,16 +6,16 @@ use mathlib.Core.Path.{_≡_, sym, ap, _∙_}
 use mathlib.Core.Bool.{false, true≢false}
 use mathlib.Core.List.{List}
 use Prim.Native.Nat.{ℕ}
-use Rattle.registry_state.specs.declared.state.RegistryState.{RegistryState}
-use Rattle.registry_state_credential.specs.declared.state.CredentialState.{CredentialState}
+use Rattle.registry_state.specs.declared.RegistryState.{RegistryState}
+use Rattle.registry_state_credential.specs.declared.CredentialState.{CredentialState}
 use Rattle.registry_answer.specs.Answers.{accepts}
 use Rattle.ledger_step.specs.Ledgers as L
 use Rattle.ledger_step.specs.Steps.{Effect, requestOf, effect, answerOf, stepOf}
 use Rattle.ledger_step.specs.Steps.Effect.{refuse, newRegistry, setRegistry, newRow, setRow}
 use Rattle.ledger_stores.specs.Applies.{Lent, lent, Stores}
-use Rattle.ledger_stores.specs.declared.call.Applied.{Applied}
+use Rattle.ledger_stores.specs.declared.Applied.{Applied}
 use Rattle.ledger_table.specs.Tables.{viewLedger}
-use Rattle.ledger_table.specs.declared.table.Ledger.{Ledger}
+use Rattle.ledger_table.specs.declared.Ledger.{Ledger}
 
 -- the ledger that is made of what the call leaves
 abbrev pub next : Applied → List RegistryState → List CredentialState → Ledger

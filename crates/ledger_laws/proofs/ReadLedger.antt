@@ -7,15 +7,15 @@ use Prim.Native.Nat.{ℕ}
 use mathlib.Core.Path.{_≡_, refl, ap, _∙_}
 use mathlib.Core.List.{List}
 use lib.ListN.{length}
-use Rattle.registry_state.specs.declared.state.RegistryState.{RegistryState}
-use Rattle.registry_state_credential.specs.declared.state.CredentialState.{CredentialState}
+use Rattle.registry_state.specs.declared.RegistryState.{RegistryState}
+use Rattle.registry_state_credential.specs.declared.CredentialState.{CredentialState}
 use Rattle.ledger_image.specs.Images.{ImageAnswer, imageOf, imageInto}
 use Rattle.ledger_image.specs.Images.ImageAnswer.{refused, held}
 use Rattle.ledger_read.specs.ImageReads.{Counts, countsOf, countsAfter, rowsAfter}
-use Rattle.ledger_read.specs.declared.read.ImageRead.{ImageRead}
+use Rattle.ledger_read.specs.declared.ImageRead.{ImageRead}
 use Rattle.ledger_read.proofs.ReadBack.{ReadInto, held-after}
 use Rattle.ledger_table.specs.Tables.{viewLedger, ledgerAfter}
-use Rattle.ledger_table.specs.declared.table.Ledger.{Ledger}
+use Rattle.ledger_table.specs.declared.Ledger.{Ledger}
 
 -- the ledger that is made of what was read
 abbrev pub next : ImageRead → List RegistryState → List CredentialState → Ledger

@@ -10,10 +10,10 @@ use borrow.Author.Tests.{lt-ltb, le-ltb, ltb-true, ltb-false, eqb-true, eq-eqb, 
 use lib.Dec.{eqb, ltb}
 use lib.ListN.{length, take, getD}
 use lib.Seq.{length-take-le, getD-take}
-use Rattle.cesr.specs.declared.primitive.Said.{Said}
+use Rattle.cesr.specs.declared.Said.{Said}
 use Rattle.registry_state_credential.specs.CredentialStates.{noCredential}
-use Rattle.registry_state.specs.declared.state.RegistryState.{RegistryState}
-use Rattle.registry_state_credential.specs.declared.state.CredentialState.{CredentialState}
+use Rattle.registry_state.specs.declared.RegistryState.{RegistryState}
+use Rattle.registry_state_credential.specs.declared.CredentialState.{CredentialState}
 use Rattle.registry_laws.specs.Pairs.{Pair, keyOf}
 use Rattle.ledger_step.specs.Tables.{find, place}
 use Rattle.ledger_step.specs.Ledgers.{Ledger, LookedUp, lentLedger, sound, eqPair, rowAt, standingOf, wellPair, lookUp}

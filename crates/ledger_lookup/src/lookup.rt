@@ -1,12 +1,12 @@
 // The standing of a credential, by its key (docs/RULES.md, "Look-up").
-use cesr::primitive::Said;
+use cesr::Said;
 use ledger_check::check::sound;
 use ledger_rows::rows::find_at;
 use ledger_rows::rows::read_row;
-use ledger_standing::lookup::LookedUp;
+use ledger_standing::LookedUp;
 use ledger_standing::lookup::standing;
-use registry_state::state::RegistryState;
-use registry_state_credential::state::CredentialState;
+use registry_state::RegistryState;
+use registry_state_credential::CredentialState;
 ghost use mathlib.Core.Path.{_≡_};
 ghost use Rattle.ledger_step.specs.Ledgers.{lentLedger, lookUp};
 ghost use Rattle.ledger_standing.specs.Lookups.{viewLookedUp, keyPair};

@@ -7,14 +7,14 @@ use mathlib.Core.Bool.{Bool, true, false}
 use mathlib.Core.List.{List}
 use borrow.Author.Tests.{eq-eqb, ne-eqb}
 use lib.Dec.{ltb}
-use Rattle.registry_state.specs.declared.state.RegistryState.{RegistryState}
-use Rattle.registry_state_credential.specs.declared.state.CredentialState.{CredentialState}
+use Rattle.registry_state.specs.declared.RegistryState.{RegistryState}
+use Rattle.registry_state_credential.specs.declared.CredentialState.{CredentialState}
 use Rattle.registry_answer.specs.Answers.{accepts}
-use Rattle.registry_error.specs.declared.error.Answer.{Answer}
+use Rattle.registry_error.specs.declared.Answer.{Answer}
 use Rattle.ledger_step.specs.Steps.{afterFold}
-use Rattle.ledger_asked.specs.declared.call.Named.{Named}
+use Rattle.ledger_asked.specs.declared.Named.{Named}
 use Rattle.ledger_asked.specs.Names.{decodes}
-use Rattle.ledger_stores.specs.declared.call.Next.{Next}
+use Rattle.ledger_stores.specs.declared.Next.{Next}
 use Rattle.ledger_answers.specs.Checks.{askedAnswer}
 use Rattle.ledger_stores.specs.Effects.{ifRead, inceptionNamed, rotationNamed, issueNamed, revocationNamed, pairNamed, kindEffect, effectNamed, Leaves}
 use Rattle.ledger_next.proofs.ReadingLaws.{asked-passes, asked-refuses}

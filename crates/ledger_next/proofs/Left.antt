@@ -9,27 +9,27 @@ use mathlib.Core.Bool.{Bool, true, false, true≢false, false≢true}
 use mathlib.Core.List.{List}
 use borrow.Author.Tests.{ltb-true}
 use lib.Dec.{ltb}
-use Rattle.cesr.specs.declared.primitive.Said.{Said}
+use Rattle.cesr.specs.declared.Said.{Said}
 use Rattle.registry_state.specs.States.{Registry, viewRegistry, wellRegistry}
-use Rattle.registry_state.specs.declared.state.RegistryState.{RegistryState}
-use Rattle.registry_state_credential.specs.declared.state.CredentialState.{CredentialState}
+use Rattle.registry_state.specs.declared.RegistryState.{RegistryState}
+use Rattle.registry_state_credential.specs.declared.CredentialState.{CredentialState}
 use Rattle.registry_answer.specs.Answers.{accepts, acceptIf}
-use Rattle.registry_error.specs.declared.error.Answer.{Answer}
-use Rattle.registry_error.specs.declared.error.Answer.the-variants.{Accepted, Rejected}
-use Rattle.registry_error.specs.declared.error.RegistryRejection.the-variants.{Malformed, NoRoom}
+use Rattle.registry_error.specs.declared.Answer.{Answer}
+use Rattle.registry_error.specs.declared.Answer.the-variants.{Accepted, Rejected}
+use Rattle.registry_error.specs.declared.RegistryRejection.the-variants.{Malformed, NoRoom}
 use Rattle.registry_answer.proofs.AnswerLaws.{passed}
 use Rattle.registry_inception.specs.InceptionFolds as N
 use Rattle.registry.specs.RegistryFolds as R
-use Rattle.registry_inception.specs.declared.registry.RegistryOutcome.{RegistryOutcome}
+use Rattle.registry_inception.specs.declared.RegistryOutcome.{RegistryOutcome}
 use Rattle.registry_issue.specs.IssueFolds as I
 use Rattle.registry_credential_state.specs.CredentialFolds as C
-use Rattle.registry_issue.specs.declared.credential_state.CredentialOutcome.{CredentialOutcome}
+use Rattle.registry_issue.specs.declared.CredentialOutcome.{CredentialOutcome}
 use Rattle.registry_laws.specs.Pairs.{Pair}
 use Rattle.registry_laws.proofs.Chains.{all-accept}
 use Rattle.ledger_step.specs.Ledgers.{heldOf}
 use Rattle.ledger_step.specs.Steps.{Effect, afterFold, heldNow}
 use Rattle.ledger_step.specs.Steps.Effect.{newRegistry, setRegistry, newRow, setRow}
-use Rattle.ledger_stores.specs.declared.call.Next.{Next}
+use Rattle.ledger_stores.specs.declared.Next.{Next}
 use Rattle.ledger_answers.specs.Checks.{inceptionAnswer, rotationAnswer, issueAnswer, revocationAnswer}
 use Rattle.ledger_asked.specs.Names.{decodes}
 use Rattle.ledger_reading.specs.Readings.{behindReading}

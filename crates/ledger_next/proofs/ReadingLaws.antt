@@ -11,20 +11,20 @@ use mathlib.Core.List.{List, []}
 use lib.Dec.{eqb}
 use Rattle.registry_state.specs.States.{viewRegistry, wellRegistry}
 use Rattle.registry_state_credential.specs.CredentialStates.{wellCredential}
-use Rattle.registry_state.specs.declared.state.RegistryState.{RegistryState}
-use Rattle.registry_state_credential.specs.declared.state.CredentialState.{CredentialState}
+use Rattle.registry_state.specs.declared.RegistryState.{RegistryState}
+use Rattle.registry_state_credential.specs.declared.CredentialState.{CredentialState}
 use Rattle.registry_wire.specs.Attempts.{Decoded}
 use Rattle.registry_answer.specs.Answers.{accepts, acceptIf, orElse, firstOf}
 use Rattle.registry_error.specs.Errors.{answerNumber}
-use Rattle.registry_error.specs.declared.error.Answer.{Answer}
-use Rattle.registry_error.specs.declared.error.Answer.the-variants.{Accepted, Rejected}
-use Rattle.registry_error.specs.declared.error.RegistryRejection.the-variants.{Malformed, InconsistentRegistry}
+use Rattle.registry_error.specs.declared.Answer.{Answer}
+use Rattle.registry_error.specs.declared.Answer.the-variants.{Accepted, Rejected}
+use Rattle.registry_error.specs.declared.RegistryRejection.the-variants.{Malformed, InconsistentRegistry}
 use Rattle.registry_inception.specs.InceptionFolds as N
 use Rattle.registry.specs.RegistryFolds as R
-use Rattle.registry_inception.specs.declared.registry.RegistryOutcome.{RegistryOutcome}
+use Rattle.registry_inception.specs.declared.RegistryOutcome.{RegistryOutcome}
 use Rattle.registry_issue.specs.IssueFolds as I
 use Rattle.registry_credential_state.specs.CredentialFolds as C
-use Rattle.registry_issue.specs.declared.credential_state.CredentialOutcome.{CredentialOutcome}
+use Rattle.registry_issue.specs.declared.CredentialOutcome.{CredentialOutcome}
 use Rattle.ledger_step.specs.Steps.{Effect, afterFold}
 use Rattle.ledger_asked.specs.Names.{decodes}
 use Rattle.ledger_asked.proofs.RequestLaws.{unread}

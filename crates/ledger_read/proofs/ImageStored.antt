@@ -16,8 +16,8 @@ use Rattle.laws.proofs.Tests.{and-left, and-right}
 use Rattle.codec_cursor.specs.Readers.{starting, placed, times}
 use Rattle.registry_state.specs.States.{Registry, readRegistry}
 use Rattle.registry_state_credential.specs.CredentialStates.{readCredential}
-use Rattle.registry_state.specs.declared.state.RegistryState.{RegistryState}
-use Rattle.registry_state_credential.specs.declared.state.CredentialState.{CredentialState}
+use Rattle.registry_state.specs.declared.RegistryState.{RegistryState}
+use Rattle.registry_state_credential.specs.declared.CredentialState.{CredentialState}
 use Rattle.ledger_step.specs.Ledgers.{heldOf}
 use Rattle.ledger_step.specs.Steps.{heldNow}
 use Rattle.ledger_image.specs.Images.{ImageAnswer, imageNumber, readRegistries, imageOf, imageInto}

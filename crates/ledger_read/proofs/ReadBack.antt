@@ -13,14 +13,14 @@ use lib.ListN.{length, take, drop}
 use lib.Seq.{sets, length-sets, sets-eq, take-at}
 use Rattle.laws.specs.Number.{Bytes}
 use Rattle.registry_state.specs.States.{Registry}
-use Rattle.registry_state.specs.declared.state.RegistryState.{RegistryState}
-use Rattle.registry_state_credential.specs.declared.state.CredentialState.{CredentialState}
+use Rattle.registry_state.specs.declared.RegistryState.{RegistryState}
+use Rattle.registry_state_credential.specs.declared.CredentialState.{CredentialState}
 use Rattle.ledger_step.specs.Ledgers.{Ledger, heldOf, lentLedger, sound}
 use Rattle.ledger_step.specs.Steps.{heldNow}
 use Rattle.ledger_image.specs.Images.{ImageAnswer, imageNumber, ledgerOf, ledgerBytes, statesOf, Ranged, imageOf, imageInto}
 use Rattle.ledger_image.specs.Images.ImageAnswer.{refused, held}
 use Rattle.ledger_image.proofs.ImageRounds.{image-back, image-again}
-use Rattle.ledger_read.specs.declared.read.ImageRead.{ImageRead}
+use Rattle.ledger_read.specs.declared.ImageRead.{ImageRead}
 use Rattle.ledger_read.specs.ImageReads.{Counts, countsOf, countsAfter, rowsAfter, Placed, RegistriesAfter}
 use Rattle.ledger_read.proofs.ImageStored.{into-held, few-rows}
 

@@ -7,14 +7,14 @@ use lib.ListN.{length, take, drop}
 use lib.Seq.{sets}
 use Rattle.codec_cursor.specs.Readers.{starting}
 use Rattle.registry_state.specs.States.{Registry}
-use Rattle.registry_state.specs.declared.state.RegistryState.{RegistryState}
-use Rattle.registry_state_credential.specs.declared.state.CredentialState.{CredentialState}
+use Rattle.registry_state.specs.declared.RegistryState.{RegistryState}
+use Rattle.registry_state_credential.specs.declared.CredentialState.{CredentialState}
 use Rattle.ledger_step.specs.Ledgers.{heldOf}
 use Rattle.ledger_step.specs.Steps.{heldNow}
 use Rattle.ledger_image.specs.Images.{ImageAnswer, readRegistries, imageInto}
 use Rattle.ledger_image.specs.Images.ImageAnswer.{refused, held}
 use Rattle.ledger_image_check.specs.Checks.{ImageCheck, checkedBy}
-use Rattle.ledger_read.specs.declared.read.ImageRead.{ImageRead}
+use Rattle.ledger_read.specs.declared.ImageRead.{ImageRead}
 
 -- what is to be stored in slices of these lengths: how many registries, how many rows, and the byte at which the first row stands
 unfoldable pub planOf : ℕ → ℕ → List ℕ → ImageCheck

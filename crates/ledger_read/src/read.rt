@@ -1,22 +1,16 @@
 // The image is judged whole before a state is stored: of an image that is refused nothing is stored, so what was held is held on.
-use ledger_image_check::image::Checked;
+use crate::ImageRead;
+use ledger_image_check::Checked;
 use ledger_image_check::image::check_image;
 use ledger_registry_image::registries::store_registries;
 use ledger_row_image::row_image::store_rows;
-use registry_state::state::RegistryState;
-use registry_state_credential::state::CredentialState;
+use registry_state::RegistryState;
+use registry_state_credential::CredentialState;
 ghost use mathlib.Core.Path.{_≡_};
 ghost use lib.ListN.{length};
 ghost use Rattle.ledger_image.specs.Images.{imageInto, imageNumber};
 ghost use Rattle.ledger_image_check.specs.Checks.{viewChecked};
 ghost use Rattle.ledger_read.specs.ImageReads.{planOf, answerBy, countsOf, countsAfter, rowsAfter, RegistriesAfter};
-
-// What reading an image answers: 0 or the refusal 1, and the counts of what is held afterwards: those that were handed in after a refusal.
-pub struct ImageRead {
-    pub number: u8,
-    pub registry_count: usize,
-    pub row_count: usize,
-}
 
 // What is to be stored of the image: nothing where it is refused, and nothing in slices of other lengths than 16 and 256.
 fn planned(image: &[u8], registry_slots: usize, row_slots: usize) -> Checked

@@ -5,8 +5,8 @@ use mathlib.Core.List.{List}
 use lib.Dec.{eqb}
 use Rattle.registry_answer.specs.Answers.{acceptIf, orElse}
 use Rattle.registry_error.specs.Errors.{answerNumber}
-use Rattle.registry_error.specs.declared.error.Answer.{Answer}
-use Rattle.registry_error.specs.declared.error.RegistryRejection.the-variants.{Malformed}
+use Rattle.registry_error.specs.declared.Answer.{Answer}
+use Rattle.registry_error.specs.declared.RegistryRejection.the-variants.{Malformed}
 use Rattle.ledger_asked.specs.Names.{decodes}
 
 -- 1 of bytes that are no attempt, before a check

@@ -1,8 +1,8 @@
 // Whether the bytes are an attempt, with as little decoded as that takes (docs/RULES.md, "Orders").
 use ledger_answers::answers::asked_answer;
 use ledger_asked::asked::decodes;
-use registry_error::error::Answer;
-use registry_error::error::RegistryRejection;
+use registry_error::Answer;
+use registry_error::RegistryRejection;
 ghost use mathlib.Core.Path.{_≡_};
 ghost use lib.Dec.{eqb};
 ghost use Rattle.registry_error.specs.Errors.{answerNumber};

@@ -9,8 +9,8 @@ use native.Mathlib.Omega.{arith}
 use lib.ListN.{length, getD, take}
 use Rattle.laws.proofs.Views.{seen-size}
 use Rattle.cesr.specs.Primitives.{eqSaid}
-use Rattle.cesr.specs.declared.primitive.Said.{Said}
-use Rattle.registry_state.specs.declared.state.RegistryState.{RegistryState}
+use Rattle.cesr.specs.declared.Said.{Said}
+use Rattle.registry_state.specs.declared.RegistryState.{RegistryState}
 use Rattle.ledger_step.specs.Ledgers.{Held, heldOf, idOf}
 use Rattle.ledger_step.proofs.PlaceSteps as P
 use Rattle.ledger_registries.specs.Registries.{noHeld, blank, findRegistry}

@@ -16,9 +16,9 @@ use lib.ListN.{length, length-map, getD, set, take, List·getD-map, List·getD-e
 use lib.Seq.{set-out, take-set-le}
 use Rattle.laws.proofs.Views.{seen-size, seen-at, seen-set}
 use Rattle.cesr.specs.Primitives.{eqSaid, isSaid}
-use Rattle.cesr.specs.declared.primitive.Said.{Said}
+use Rattle.cesr.specs.declared.Said.{Said}
 use Rattle.registry_state.specs.States.{Registry, viewRegistry, wellRegistry, noRegistry, noSaid}
-use Rattle.registry_state.specs.declared.state.RegistryState.{RegistryState}
+use Rattle.registry_state.specs.declared.RegistryState.{RegistryState}
 use Rattle.ledger_step.specs.Tables.{find, put, place}
 use Rattle.ledger_step.specs.Ledgers.{Held, heldOf, idOf}
 use Rattle.ledger_step.proofs.PlaceLaws.{getD-any, find-place, put-place}

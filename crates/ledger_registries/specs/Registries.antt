@@ -4,9 +4,9 @@ use mathlib.Core.Bool.{false}
 use mathlib.Core.List.{List, [], map}
 use lib.ListN.{take}
 use Rattle.cesr.specs.Primitives.{eqSaid, none}
-use Rattle.cesr.specs.declared.primitive.Said.{Said}
+use Rattle.cesr.specs.declared.Said.{Said}
 use Rattle.registry_state.specs.States.{noRegistry, noSaid, noSn}
-use Rattle.registry_state.specs.declared.state.RegistryState.{RegistryState}
+use Rattle.registry_state.specs.declared.RegistryState.{RegistryState}
 use Rattle.ledger_step.specs.Tables.{place}
 use Rattle.ledger_step.specs.Ledgers.{Held, heldOf, idOf}
 

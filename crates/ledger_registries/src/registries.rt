@@ -1,7 +1,7 @@
 // Registries behind a slice of states, in the order in which they arrived (docs/RULES.md, "Ledger", "Reading rules"). These functions find an id, read a registry and store a registry; beside them only the check of all registries and the image reach into the slice.
-use cesr::primitive::Said;
+use cesr::Said;
 use ledger_step::number::lesser;
-use registry_state::state::RegistryState;
+use registry_state::RegistryState;
 ghost use mathlib.Core.Path.{_≡_};
 ghost use mathlib.Core.List.{map};
 ghost use Prim.Native.Nat.{_<_};

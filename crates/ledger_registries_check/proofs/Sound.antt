@@ -11,7 +11,7 @@ use lib.Dec.{eqb, leb}
 use lib.ListN.{length, length-map, getD, take}
 use Rattle.cesr.specs.Primitives.{eqSaid}
 use Rattle.registry_state.specs.States.{viewRegistry, wellRegistry}
-use Rattle.registry_state.specs.declared.state.RegistryState.{RegistryState}
+use Rattle.registry_state.specs.declared.RegistryState.{RegistryState}
 use Rattle.registry_laws.specs.ReadingRules.{soundRegistry}
 use Rattle.ledger_step.specs.Tables.{place}
 use Rattle.ledger_step.specs.Ledgers.{Held, heldOf, idOf, keepsLayout, keepsRules, holds, registryRules}

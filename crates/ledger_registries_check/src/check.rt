@@ -2,7 +2,7 @@
 use ledger_registries::registries::find_registry;
 use ledger_registry_rules::rules::passes;
 use ledger_registry_rules::rules::right_size;
-use registry_state::state::RegistryState;
+use registry_state::RegistryState;
 ghost use mathlib.Core.Path.{_≡_};
 ghost use mathlib.Core.List.{map};
 ghost use Prim.Native.Nat.{_<_};

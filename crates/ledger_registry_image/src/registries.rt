@@ -1,10 +1,10 @@
 // Registries behind a slice, and the bytes that an image has of them: how many, how they are written, how they are read (docs/RULES.md, "Image").
-use codec_cursor::cursor::Cursor;
+use codec_cursor::Cursor;
 use ledger_sections::registries::read_next;
 use ledger_sections::registries::section_count;
 use ledger_sections::registries::write_head;
 use ledger_step::number::lesser;
-use registry_state::state::RegistryState;
+use registry_state::RegistryState;
 ghost use mathlib.Core.Path.{_≡_};
 ghost use Prim.Native.Nat.{_+_, _≤_};
 ghost use lib.ListN.{length};

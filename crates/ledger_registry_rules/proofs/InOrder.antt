@@ -9,18 +9,18 @@ use mathlib.Core.List.{List}
 use lib.Dec.{eqb, leb}
 use lib.ListN.{length, take}
 use Rattle.cesr.specs.Primitives.{isBasic, isSaid}
-use Rattle.cesr.specs.declared.primitive.BasicPrefix.{BasicPrefix}
+use Rattle.cesr.specs.declared.BasicPrefix.{BasicPrefix}
 use Rattle.events.specs.Members.{view, noPrefix, at, has, checkMembers}
-use Rattle.events.specs.declared.member_set.Membership.{Membership}
-use Rattle.events.specs.declared.member_set.Membership.the-variants.{Sound, Broken}
-use Rattle.events.proofs.Members.{sound-distinct, distinct-sound}
+use Rattle.events.specs.declared.Membership.{Membership}
+use Rattle.events.specs.declared.Membership.the-variants.{Sound, Broken}
+use Rattle.events.proofs.MemberLaws.{sound-distinct, distinct-sound}
 use Rattle.events_tel.specs.Configs.{viewConfigs, noBackers}
 use Rattle.events_toad.specs.Toads.{exactOk}
 use Rattle.codec_cursor.specs.Readers.{isIdentifier}
 use Rattle.codec.specs.Events.{isConfig}
 use Rattle.codec.specs.Layout.{all}
 use Rattle.registry_state.specs.States.{viewRegistry, wellRegistry, isBacker}
-use Rattle.registry_state.specs.declared.state.RegistryState.{RegistryState}
+use Rattle.registry_state.specs.declared.RegistryState.{RegistryState}
 use Rattle.registry_state.proofs.StateLoops.{all-pass, all-fail}
 use Rattle.registry_answer.specs.Answers.{accepts, backerSet}
 use Rattle.registry_laws.specs.ReadingRules.{soundRegistry}

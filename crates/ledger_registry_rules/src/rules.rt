@@ -1,6 +1,6 @@
 // The reading rules of one registry, and what the check of all of them asks of each.
-use events::member_set::Members;
-use registry_state::state::RegistryState;
+use events::Members;
+use registry_state::RegistryState;
 use registry_state::state::all_configs;
 ghost use mathlib.Core.Path.{_≡_};
 ghost use mathlib.Core.Bool.{_&&_};

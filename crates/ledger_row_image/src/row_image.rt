@@ -1,9 +1,9 @@
 // Credential rows behind a slice, written to the bytes of an image and stored from them, one row in each turn of a loop.
-use codec_cursor::cursor::Cursor;
+use codec_cursor::Cursor;
 use ledger_image::image::write_count;
 use ledger_rows::rows::store_row;
 use ledger_sections::rows::section_fits;
-use registry_state_credential::state::CredentialState;
+use registry_state_credential::CredentialState;
 ghost use mathlib.Core.Path.{_≡_};
 ghost use lib.Seq.{sets};
 ghost use Rattle.ledger_sections.specs.RowImages.{writtenRows, rowsFrom};

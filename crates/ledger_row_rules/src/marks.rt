@@ -1,5 +1,5 @@
 // Which rows have to be searched for the key of a row, told by the credentials that were met before it.
-use cesr::primitive::Said;
+use cesr::Said;
 ghost use mathlib.Core.Path.{_≡_};
 ghost use mathlib.Core.Bool.{cond};
 ghost use lib.Dec.{eqb};

@@ -1,6 +1,6 @@
 // The rules that a row keeps or breaks by itself (docs/RULES.md, "Reading rules").
-use cesr_sn::number::Sn;
-use registry_state_credential::state::CredentialState;
+use cesr_sn::Sn;
+use registry_state_credential::CredentialState;
 ghost use mathlib.Core.Path.{_≡_};
 ghost use mathlib.Core.Bool.{_&&_};
 ghost use lib.Dec.{eqb, leb};

@@ -1,7 +1,7 @@
 // Credential rows behind a slice of states. These functions find a key, read a row and store a row; beside them only the check of all rows and the image reach into the slice.
-use cesr::primitive::Said;
+use cesr::Said;
 use ledger_step::number::lesser;
-use registry_state_credential::state::CredentialState;
+use registry_state_credential::CredentialState;
 ghost use mathlib.Core.Path.{_≡_};
 ghost use lib.ListN.{length, set};
 ghost use Rattle.ledger_rows.specs.Rows.{rowAt, hasKey, findAt};

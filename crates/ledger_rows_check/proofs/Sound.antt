@@ -11,7 +11,7 @@ use mathlib.Core.List.{List}
 use lib.Dec.{eqb, leb}
 use lib.ListN.{length, take}
 use Rattle.registry_state_credential.specs.CredentialStates.{noCredential, wellCredential}
-use Rattle.registry_state_credential.specs.declared.state.CredentialState.{CredentialState}
+use Rattle.registry_state_credential.specs.declared.CredentialState.{CredentialState}
 use Rattle.registry_laws.specs.Pairs.{keyOf}
 use Rattle.ledger_step.specs.Ledgers.{eqPair, zeroOrOne, holds, rowRules}
 use Rattle.ledger_step.proofs.Rules.{pair-test}

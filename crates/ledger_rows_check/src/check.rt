@@ -4,7 +4,7 @@ use ledger_row_rules::marks::no_marks;
 use ledger_row_rules::rules::passes;
 use ledger_row_rules::rules::right_size;
 use ledger_rows::rows::find_at;
-use registry_state_credential::state::CredentialState;
+use registry_state_credential::CredentialState;
 ghost use mathlib.Core.Path.{_≡_};
 ghost use lib.ListN.{length, take};
 ghost use Rattle.ledger_step.specs.Ledgers.{holds, rowRules};

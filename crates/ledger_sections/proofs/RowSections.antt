@@ -7,10 +7,10 @@ use mathlib.Core.List.{List}
 use borrow.Author.Tests.{le-leb}
 use lib.ListN.{length, take}
 use Rattle.laws.specs.Room.{put}
-use Rattle.codec_cursor.specs.declared.cursor.Cursor.{Cursor}
+use Rattle.codec_cursor.specs.declared.Cursor.{Cursor}
 use Rattle.codec_cursor.specs.Readers.{placed, times}
 use Rattle.registry_state_credential.specs.CredentialStates.{readCredential}
-use Rattle.registry_state_credential.specs.declared.state.CredentialState.{CredentialState}
+use Rattle.registry_state_credential.specs.declared.CredentialState.{CredentialState}
 use Rattle.ledger_image.specs.Images.{credentialSection, wideCount, wideSection, readCredentials}
 use Rattle.ledger_sections.specs.RowImages.{writtenRows, rowsFrom}
 

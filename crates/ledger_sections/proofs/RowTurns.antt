@@ -20,11 +20,11 @@ use Rattle.laws.proofs.Room.{sets-append, put-sets, put-none}
 use Rattle.laws.proofs.Tests.{and-left, and-right}
 use Rattle.codec.specs.Layout.{joined}
 use Rattle.codec_laws.proofs.CodesList.{joined-snoc}
-use Rattle.codec_cursor.specs.declared.cursor.Cursor.{Cursor}
+use Rattle.codec_cursor.specs.declared.Cursor.{Cursor}
 use Rattle.codec_cursor.specs.Readers.{Read, placed, times}
 use Rattle.registry_state_credential.specs.CredentialStates.{noCredential, credentialBytes, readCredential, viewCredentialRead}
-use Rattle.registry_state_credential.specs.declared.state.CredentialState.{CredentialState}
-use Rattle.registry_state_credential.specs.declared.state.CredentialRead.{CredentialRead}
+use Rattle.registry_state_credential.specs.declared.CredentialState.{CredentialState}
+use Rattle.registry_state_credential.specs.declared.CredentialRead.{CredentialRead}
 use Rattle.registry_state_credential.proofs.CodesCredential.{length-credential}
 use Rattle.ledger_image.specs.Images.{wideBytes, credentialSection}
 use Rattle.ledger_sections.specs.RowImages.{writtenRows, rowsFrom}

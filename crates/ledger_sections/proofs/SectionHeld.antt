@@ -13,16 +13,16 @@ use lib.ListN.{length, take}
 use Rattle.laws.specs.Number.{numberAt}
 use Rattle.laws.proofs.Tests.{and-left, and-right}
 use Rattle.cesr.specs.Primitives.{isBasic, isSaid, readMatter}
-use Rattle.cesr.specs.declared.primitive.Matter.{Matter}
+use Rattle.cesr.specs.declared.Matter.{Matter}
 use Rattle.codec_cursor.specs.Readers.{Reader, starting, placed, advanced, readByte, readQuad, readNumber, readIf, isIdentifier, readIdentifier, readSaid, readPrefix, readByteIf, both, times, countUpTo, section}
-use Rattle.codec_cursor.specs.declared.cursor.Cursor.{Cursor}
+use Rattle.codec_cursor.specs.declared.Cursor.{Cursor}
 use Rattle.codec.specs.Events.{isConfig, readConfig, readConfigs, readPrefixes}
 use Rattle.codec.specs.Layout.{all}
 use Rattle.codec_laws.proofs.Stands.{went, passed}
 use Rattle.codec_laws.proofs.Codes.{and-true}
 use Rattle.codec_laws.proofs.CodesList.{all-snoc}
 use Rattle.registry_state.specs.States.{Registry, readRegistry, isBacker}
-use Rattle.registry_state.specs.declared.state.RegistryState.{RegistryState}
+use Rattle.registry_state.specs.declared.RegistryState.{RegistryState}
 use Rattle.ledger_step.specs.Ledgers.{heldOf}
 use Rattle.ledger_step.specs.Steps.{heldNow}
 use Rattle.ledger_image.specs.Images.{wideCount, wideSection, readRegistries}

@@ -11,9 +11,9 @@ use borrow.Author.Tests.{le-leb}
 use lib.ListN.{length, take, drop, set, length-set}
 use lib.Seq.{take-suc-set, drop-set-lt, drop-drop}
 use Rattle.codec_cursor.specs.Readers.{placed, times}
-use Rattle.codec_cursor.specs.declared.cursor.Cursor.{Cursor}
+use Rattle.codec_cursor.specs.declared.Cursor.{Cursor}
 use Rattle.registry_state.specs.States.{Registry, viewRegistry, wellRegistry, readRegistry}
-use Rattle.registry_state.specs.declared.state.RegistryState.{RegistryState}
+use Rattle.registry_state.specs.declared.RegistryState.{RegistryState}
 use Rattle.ledger_step.specs.Ledgers.{heldOf}
 use Rattle.ledger_sections.specs.RegistrySections.{registriesIn, wellLetters, heldRead, Stored}
 

@@ -12,12 +12,12 @@ use lib.Seq.{take-suc}
 use Rattle.laws.specs.Number.{digits}
 use Rattle.laws.proofs.Number.{length-digits}
 use Rattle.laws.proofs.Views.{take-counted}
-use Rattle.events.proofs.Members.{view-size as backers-size}
-use Rattle.events_tel.proofs.Configs.{view-size as configs-size}
+use Rattle.events.proofs.MemberLaws.{view-size as backers-size}
+use Rattle.events_tel.proofs.ConfigLaws.{view-size as configs-size}
 use Rattle.codec.specs.Layout.{joined}
 use Rattle.codec_laws.proofs.CodesList.{joined-snoc}
 use Rattle.registry_state.specs.States.{viewRegistry, registryBytes, noSaid, noSn}
-use Rattle.registry_state.specs.declared.state.RegistryState.{RegistryState}
+use Rattle.registry_state.specs.declared.RegistryState.{RegistryState}
 use Rattle.registry_state.proofs.StateLoops.{length-registry}
 use Rattle.cesr.specs.Primitives.{none}
 use Rattle.ledger_image.specs.Images.{wideBytes, registrySection}

@@ -19,7 +19,7 @@ use Rattle.laws.specs.Room.{put}
 use Rattle.laws.proofs.Number.{length-digits}
 use Rattle.laws.proofs.Room.{put-sets, put-none, length-put, sets-append}
 use Rattle.registry_state.specs.States.{viewRegistry, registryBytes}
-use Rattle.registry_state.specs.declared.state.RegistryState.{RegistryState}
+use Rattle.registry_state.specs.declared.RegistryState.{RegistryState}
 use Rattle.ledger_sections.specs.RegistrySections.{sectionOf}
 use Rattle.ledger_sections.proofs.SectionSizes.{blank, bytesOf, bytes-none, bytes-more, sized, sized-more, sized-all, used, section-of}
 

@@ -9,7 +9,7 @@ use Rattle.codec_cursor.specs.Readers.{Read, placed, isIdentifier, times}
 use Rattle.codec.specs.Events.{isConfig}
 use Rattle.codec.specs.Layout.{all}
 use Rattle.registry_state.specs.States.{Registry, viewRegistry, readRegistry, isBacker}
-use Rattle.registry_state.specs.declared.state.RegistryState.{RegistryState}
+use Rattle.registry_state.specs.declared.RegistryState.{RegistryState}
 use Rattle.ledger_step.specs.Ledgers.{Held, heldOf}
 use Rattle.ledger_image.specs.Images.{registrySection}
 

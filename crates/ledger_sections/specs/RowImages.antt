@@ -7,7 +7,7 @@ use lib.ListN.{length, take}
 use Rattle.laws.specs.Room.{put}
 use Rattle.codec_cursor.specs.Readers.{placed, times}
 use Rattle.registry_state_credential.specs.CredentialStates.{readCredential}
-use Rattle.registry_state_credential.specs.declared.state.CredentialState.{CredentialState}
+use Rattle.registry_state_credential.specs.declared.CredentialState.{CredentialState}
 use Rattle.ledger_image.specs.Images.{credentialSection}
 
 -- the section of the first count rows, from the buffer's start, all of it or nothing; nothing where there are not so many rows

@@ -1,9 +1,9 @@
 // The section of registries but for its loops: how many it has, its count written where there is room for all of it, one registry read (docs/RULES.md, "Image").
-use codec_cursor::cursor::Cursor;
+use codec_cursor::Cursor;
 use ledger_image::image::write_count;
 use ledger_step::number::lesser;
-use registry_state::state::RegistryRead;
-use registry_state::state::RegistryState;
+use registry_state::RegistryRead;
+use registry_state::RegistryState;
 ghost use mathlib.Core.Path.{_≡_};
 ghost use mathlib.Core.Bool.{cond};
 ghost use Prim.Native.Nat.{min};

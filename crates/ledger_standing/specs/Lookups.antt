@@ -3,11 +3,11 @@ use Prim.Native.Nat.{ℕ}
 use mathlib.Core.Bool.{Bool, cond, _&&_}
 use mathlib.Core.Option.{none, some}
 use lib.Dec.{ltb}
-use Rattle.cesr.specs.declared.primitive.Said.{Said}
-use Rattle.registry_state_credential.specs.declared.state.CredentialState.{CredentialState}
+use Rattle.cesr.specs.declared.Said.{Said}
+use Rattle.registry_state_credential.specs.declared.CredentialState.{CredentialState}
 use Rattle.registry_laws.specs.Pairs.{Pair}
 use Rattle.ledger_step.specs.Ledgers.{LookedUp, standingOf, wellPair}
-use Rattle.ledger_standing.specs.declared.lookup.LookedUp as Code
+use Rattle.ledger_standing.specs.declared.LookedUp as Code
 
 -- a key, from its two parts
 abbrev pub keyPair : Said → Said → Pair

@@ -1,19 +1,14 @@
 // What a look-up answers, from the row that a search for the key found (docs/RULES.md, "Look-up").
-use cesr::primitive::Said;
-use cesr_sn::number::Sn;
-use registry_state_credential::state::CredentialState;
+use crate::LookedUp;
+use cesr::Said;
+use cesr_sn::Sn;
+use registry_state_credential::CredentialState;
 ghost use mathlib.Core.Path.{_≡_};
 ghost use mathlib.Core.Bool.{_&&_};
 ghost use lib.Dec.{eqb, ltb};
 ghost use Rattle.cesr_sn.specs.Numbers.{value};
 ghost use Rattle.ledger_step.specs.Ledgers.{wellPair};
 ghost use Rattle.ledger_standing.specs.Lookups.{viewLookedUp, keyPair, lookedUpOf};
-
-// What a look-up answers: 0 or the refusal 1, and 1 Issued, 2 Revoked, 3 Unknown, or 0 after a refusal.
-pub struct LookedUp {
-    pub refusal: u8,
-    pub standing: u8,
-}
 
 // Whether there is a standing: the ledger keeps to the reading rules, and both parts of the key are saids.
 fn has_standing(ok: bool, registry: Said, credential: Said) -> bool

@@ -11,10 +11,10 @@ use mathlib.Core.List.{List, map, map-map, List·Memᴰ}
 use native.Mathlib.Omega.{arith}
 use borrow.Author.Tests.{lt-ltb}
 use Rattle.cesr.specs.Primitives.{eqSaid}
-use Rattle.cesr.specs.declared.primitive.Matter.{Matter}
-use Rattle.cesr.specs.declared.primitive.Said.{Said}
+use Rattle.cesr.specs.declared.Matter.{Matter}
+use Rattle.cesr.specs.declared.Said.{Said}
 use Rattle.registry_state.specs.States.{Registry}
-use Rattle.registry_state_credential.specs.declared.state.CredentialState.{CredentialState}
+use Rattle.registry_state_credential.specs.declared.CredentialState.{CredentialState}
 use Rattle.registry_wire.specs.Attempts.{Message}
 use Rattle.registry_laws.specs.Pairs.{Pair, keyOf}
 use Rattle.registry_laws.specs.States.{OneRegistry}

@@ -7,16 +7,16 @@ use mathlib.Core.Bool.{Bool, true, false, cond, _&&_, false≢true}
 use Rattle.laws.proofs.Tests.{and-left, and-right}
 use Rattle.cesr_sn.specs.Numbers.{value}
 use Rattle.cesr.specs.Primitives.{eqSaid, isSaid}
-use Rattle.cesr.specs.declared.primitive.Said.{Said}
+use Rattle.cesr.specs.declared.Said.{Said}
 use Rattle.cesr.proofs.Matters.{said-eq}
 use Rattle.events_tel.specs.TelEvents.{Event}
 use Rattle.events_tel.specs.TelEvents.Event.{vcp, vrt, iss, rev, bis, brv}
 use Rattle.registry_state.specs.States.{Registry}
 use Rattle.registry_state_credential.specs.CredentialStates.{wellCredential}
-use Rattle.registry_state_credential.specs.declared.state.CredentialState.{CredentialState}
+use Rattle.registry_state_credential.specs.declared.CredentialState.{CredentialState}
 use Rattle.registry_wire.specs.Attempts.{Message}
 use Rattle.registry_answer.specs.Answers.{accepts, acceptIf}
-use Rattle.registry_error.specs.declared.error.RegistryRejection.the-variants.{InconsistentRegistry}
+use Rattle.registry_error.specs.declared.RegistryRejection.the-variants.{InconsistentRegistry}
 use Rattle.registry_answer.proofs.AnswerLaws.{or-second, passed}
 use Rattle.registry_authentication.specs.Issuers.{issuerKind}
 use Rattle.registry_inception.specs.InceptionFolds as N

@@ -13,7 +13,7 @@ use Rattle.laws.proofs.Tests.{and-left}
 use Rattle.cesr.specs.Primitives.{isSaid, readMatter}
 use Rattle.events_tel.specs.TelEvents.{Event}
 use Rattle.events_tel.specs.TelEvents.Event.{vcp, vrt, iss, rev, bis, brv}
-use Rattle.codec_cursor.specs.declared.cursor.Cursor.{Cursor}
+use Rattle.codec_cursor.specs.declared.Cursor.{Cursor}
 use Rattle.codec_cursor.specs.Readers.{Read, Reader, starting, need, readByte, readIf, readSaid, counted, mapped, both, after, ended}
 use Rattle.codec.specs.Events.{vcpOf, vrtOf, issOf, revOf, bisOf, brvOf, readSeal, readVcp, readVrt, readIss, readRev, readBis, readBrv, readKind, readEvent}
 use Rattle.codec_laws.proofs.Stands.{passed}

@@ -6,7 +6,7 @@ use mathlib.Core.Bool.{false, true≢false}
 use Rattle.events_tel.specs.TelEvents.{Event}
 use Rattle.events_tel.specs.TelEvents.Event.{vcp, vrt, iss, rev, bis, brv}
 use Rattle.registry_state.specs.States.{Registry}
-use Rattle.registry_state_credential.specs.declared.state.CredentialState.{CredentialState}
+use Rattle.registry_state_credential.specs.declared.CredentialState.{CredentialState}
 use Rattle.registry_wire.specs.Attempts.{Message, Evidence}
 use Rattle.registry_wire.specs.Attempts.Evidence.{backer}
 use Rattle.registry_issue.specs.IssueFolds as I

@@ -10,8 +10,8 @@ use native.Mathlib.Omega.{arith}
 use borrow.Author.Tests.{not-true}
 use lib.ListN.{length, getElem?}
 use Rattle.cesr.specs.Primitives.{eqSaid}
-use Rattle.registry_error.specs.declared.error.Answer.the-variants.{Rejected}
-use Rattle.registry_error.specs.declared.error.RegistryRejection.the-variants.{Malformed}
+use Rattle.registry_error.specs.declared.Answer.the-variants.{Rejected}
+use Rattle.registry_error.specs.declared.RegistryRejection.the-variants.{Malformed}
 use Rattle.registry_laws.specs.Pairs.{Pair, keyOf}
 use Rattle.ledger_step.specs.Tables.{has}
 use Rattle.ledger_step.specs.Ledgers.{Ledger, idOf, eqPair, rowAt, sound, lookUp}

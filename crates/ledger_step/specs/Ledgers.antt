@@ -7,12 +7,12 @@ use lib.Dec.{eqb, leb}
 use lib.ListN.{length, take}
 use Rattle.cesr_sn.specs.Numbers.{value}
 use Rattle.cesr.specs.Primitives.{eqSaid, isSaid}
-use Rattle.cesr.specs.declared.primitive.Said.{Said}
+use Rattle.cesr.specs.declared.Said.{Said}
 use Rattle.codec.specs.Layout.{all}
 use Rattle.registry_state.specs.States.{Registry, viewRegistry, wellRegistry}
 use Rattle.registry_state_credential.specs.CredentialStates.{wellCredential}
-use Rattle.registry_state.specs.declared.state.RegistryState.{RegistryState}
-use Rattle.registry_state_credential.specs.declared.state.CredentialState.{CredentialState}
+use Rattle.registry_state.specs.declared.RegistryState.{RegistryState}
+use Rattle.registry_state_credential.specs.declared.CredentialState.{CredentialState}
 use Rattle.registry_laws.specs.Pairs.{Pair, keyOf}
 use Rattle.registry_laws.specs.ReadingRules.{soundRegistry}
 use Rattle.ledger_step.specs.Tables.{has, distinct, find}

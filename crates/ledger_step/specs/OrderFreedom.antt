@@ -5,15 +5,15 @@ use mathlib.Core.Bool.{Bool, true, false, cond, not}
 use mathlib.Core.Option.{Option, none, some}
 use mathlib.Core.List.{List, [], _∷_}
 use lib.ListN.{length, getElem?}
-use Rattle.cesr.specs.declared.primitive.Said.{Said}
+use Rattle.cesr.specs.declared.Said.{Said}
 use Rattle.events_tel.specs.TelEvents.{Event}
 use Rattle.events_tel.specs.TelEvents.Event.{vcp, vrt, iss, rev, bis, brv}
 use Rattle.registry_wire.specs.Attempts.{Evidence}
 use Rattle.registry_wire.specs.Attempts.Evidence.{missing, issuer, backer, backerAt}
 use Rattle.registry_disposition.specs.Dispositions.{awaitedOf}
 use Rattle.registry_error.specs.Errors.{answerNumber, answerLetter, dispositionOf, detailsOf}
-use Rattle.registry_error.specs.declared.error.Answer.{Answer}
-use Rattle.registry_error.specs.declared.error.Answer.the-variants.{Accepted, Rejected}
+use Rattle.registry_error.specs.declared.Answer.{Answer}
+use Rattle.registry_error.specs.declared.Answer.the-variants.{Accepted, Rejected}
 use Rattle.registry_laws.specs.Pairs.{Pair}
 use Rattle.ledger_step.specs.Tables.{has, found}
 use Rattle.ledger_step.specs.Ledgers.{Ledger, eqPair, rowAt, lookUp}

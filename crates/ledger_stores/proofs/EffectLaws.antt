@@ -8,20 +8,20 @@ use mathlib.Core.Option.{Option, none, some}
 use mathlib.Core.List.{List, [], _∷_}
 use lib.Dec.{ltb}
 use Rattle.cesr.specs.Primitives.{eqSaid}
-use Rattle.cesr.specs.declared.primitive.Said.{Said}
+use Rattle.cesr.specs.declared.Said.{Said}
 use Rattle.events_tel.specs.TelEvents.{Event}
 use Rattle.events_tel.specs.TelEvents.Event.{vcp, vrt, iss, rev, bis, brv}
 use Rattle.registry_state.specs.States.{viewRegistry, wellRegistry}
 use Rattle.registry_state_credential.specs.CredentialStates.{wellCredential}
-use Rattle.registry_state.specs.declared.state.RegistryState.{RegistryState}
-use Rattle.registry_state_credential.specs.declared.state.CredentialState.{CredentialState}
+use Rattle.registry_state.specs.declared.RegistryState.{RegistryState}
+use Rattle.registry_state_credential.specs.declared.CredentialState.{CredentialState}
 use Rattle.registry_wire.specs.Attempts.{Message, Decoded, decodeOf}
 use Rattle.registry_wire.specs.Attempts.Decoded.{malformed, decoded}
 use Rattle.registry_error.specs.Errors.{numberOf}
 use Rattle.registry_answer.specs.Answers.{acceptIf, firstOf}
-use Rattle.registry_error.specs.declared.error.Answer.{Answer}
-use Rattle.registry_error.specs.declared.error.Answer.the-variants.{Accepted, Rejected}
-use Rattle.registry_error.specs.declared.error.RegistryRejection.the-variants.{Malformed, NoRoom}
+use Rattle.registry_error.specs.declared.Answer.{Answer}
+use Rattle.registry_error.specs.declared.Answer.the-variants.{Accepted, Rejected}
+use Rattle.registry_error.specs.declared.RegistryRejection.the-variants.{Malformed, NoRoom}
 use Rattle.registry_inception.specs.InceptionFolds as N
 use Rattle.registry.specs.RegistryFolds as R
 use Rattle.registry_issue.specs.IssueFolds as I
@@ -33,7 +33,7 @@ use Rattle.ledger_step.specs.Steps.Request.{nothing, inception, rotation, issue
 use Rattle.ledger_step.specs.Steps.Effect.{refuse, newRegistry, setRegistry, newRow, setRow}
 use Rattle.ledger_step.proofs.TableLaws.{all-find}
 use Rattle.ledger_step.proofs.Rules.{Keeps, parts}
-use Rattle.ledger_asked.specs.declared.call.Named.{Named}
+use Rattle.ledger_asked.specs.declared.Named.{Named}
 use Rattle.ledger_asked.specs.Names.{namedOf, headNamed, isDecoded, decodes}
 use Rattle.ledger_asked.proofs.RequestLaws.{named-head, asks-nothing}
 use Rattle.ledger_answers.specs.Checks.{askedAnswer, inceptionAnswer, rotationAnswer, issueAnswer, revocationAnswer}

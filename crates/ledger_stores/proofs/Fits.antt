@@ -8,12 +8,12 @@ use mathlib.Core.List.{List}
 use native.Mathlib.Omega.{arith}
 use borrow.Author.Tests.{ltb-true, eqb-true}
 use lib.Dec.{ltb}
-use Rattle.cesr.specs.declared.primitive.Said.{Said}
-use Rattle.registry_state_credential.specs.declared.state.CredentialState.{CredentialState}
+use Rattle.cesr.specs.declared.Said.{Said}
+use Rattle.registry_state_credential.specs.declared.CredentialState.{CredentialState}
 use Rattle.registry_wire.specs.Attempts.{Message}
-use Rattle.registry_error.specs.declared.error.Answer.{Answer}
-use Rattle.registry_error.specs.declared.error.Answer.the-variants.{Accepted, Rejected}
-use Rattle.registry_error.specs.declared.error.RegistryRejection.the-variants.{Malformed, NoRoom}
+use Rattle.registry_error.specs.declared.Answer.{Answer}
+use Rattle.registry_error.specs.declared.Answer.the-variants.{Accepted, Rejected}
+use Rattle.registry_error.specs.declared.RegistryRejection.the-variants.{Malformed, NoRoom}
 use Rattle.registry_inception.specs.InceptionFolds as N
 use Rattle.registry.specs.RegistryFolds as R
 use Rattle.registry_issue.specs.IssueFolds as I
@@ -24,7 +24,7 @@ use Rattle.ledger_step.specs.Steps.{Request, requestOf, Effect, afterFold, with
 use Rattle.ledger_step.specs.Steps.Request.{nothing, inception, rotation, issue, revocation}
 use Rattle.ledger_step.specs.Steps.Effect.{refuse, newRegistry, setRegistry, newRow, setRow}
 use Rattle.ledger_step.proofs.Rules.{Keeps, parts}
-use Rattle.ledger_asked.specs.declared.call.Named.{Named}
+use Rattle.ledger_asked.specs.declared.Named.{Named}
 use Rattle.ledger_asked.specs.Names.{namedOf, headNamed, decodes}
 use Rattle.ledger_asked.proofs.RequestLaws.{named-head, asks-nothing}
 use Rattle.ledger_stores.specs.Effects.{pairNamed}

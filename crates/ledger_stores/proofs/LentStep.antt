@@ -16,10 +16,10 @@ use lib.Dec.{ltb}
 use lib.ListN.{length, length-set, getD, set, take}
 use lib.Seq.{set-out, set-getD}
 use Rattle.cesr.specs.Primitives.{eqSaid}
-use Rattle.cesr.specs.declared.primitive.Said.{Said}
+use Rattle.cesr.specs.declared.Said.{Said}
 use Rattle.registry_state_credential.specs.CredentialStates.{noCredential}
-use Rattle.registry_state.specs.declared.state.RegistryState.{RegistryState}
-use Rattle.registry_state_credential.specs.declared.state.CredentialState.{CredentialState}
+use Rattle.registry_state.specs.declared.RegistryState.{RegistryState}
+use Rattle.registry_state_credential.specs.declared.CredentialState.{CredentialState}
 use Rattle.registry_laws.specs.Pairs.{Pair, keyOf}
 use Rattle.ledger_step.specs.Tables.{put, place}
 use Rattle.ledger_step.specs.Ledgers.{Held, Ledger, heldOf, idOf, eqPair, lentLedger, sound}
@@ -28,8 +28,8 @@ use Rattle.ledger_step.specs.Steps.Effect.{refuse, newRegistry, setRegistry, ne
 use Rattle.ledger_step.proofs.Rules.{Keeps, parts}
 use Rattle.ledger_registries.specs.Registries.{noHeld, blank, findRegistry}
 use Rattle.ledger_registries.proofs.RegistryViews.{found-registry, stored-registry}
-use Rattle.ledger_asked.specs.declared.call.Named.{Named}
-use Rattle.ledger_stores.specs.declared.call.Next.{Next}
+use Rattle.ledger_asked.specs.declared.Named.{Named}
+use Rattle.ledger_stores.specs.declared.Next.{Next}
 use Rattle.ledger_asked.specs.Names.{headNamed}
 use Rattle.ledger_stores.specs.Effects.{pairNamed, effectNamed, Leaves}
 use Rattle.ledger_stores.proofs.EffectLaws.{Found, foundAt, named-effect}

@@ -9,24 +9,24 @@ use native.Mathlib.Omega.{arith}
 use lib.ListN.{length, length-set, getD, set, take}
 use Rattle.laws.proofs.Views.{kept-size, seen-size}
 use Rattle.cesr.specs.Primitives.{eqSaid}
-use Rattle.cesr.specs.declared.primitive.Said.{Said}
+use Rattle.cesr.specs.declared.Said.{Said}
 use Rattle.registry_state_credential.specs.CredentialStates.{noCredential}
-use Rattle.registry_state.specs.declared.state.RegistryState.{RegistryState}
-use Rattle.registry_state_credential.specs.declared.state.CredentialState.{CredentialState}
+use Rattle.registry_state.specs.declared.RegistryState.{RegistryState}
+use Rattle.registry_state_credential.specs.declared.CredentialState.{CredentialState}
 use Rattle.registry_laws.specs.Pairs.{Pair, keyOf}
 use Rattle.ledger_step.specs.Ledgers.{heldOf, idOf, eqPair, lentLedger, sound}
 use Rattle.ledger_step.specs.Steps.{Effect, requestOf, effect, stepOf}
 use Rattle.ledger_step.specs.Steps.Effect.{refuse, newRegistry, setRegistry, newRow, setRow}
 use Rattle.ledger_rows.specs.Rows.{rowAt, findAt}
 use Rattle.ledger_registries.specs.Registries.{noHeld, blank, findRegistry}
-use Rattle.ledger_asked.specs.declared.call.Named.{Named}
-use Rattle.ledger_stores.specs.declared.call.Next.{Next}
+use Rattle.ledger_asked.specs.declared.Named.{Named}
+use Rattle.ledger_stores.specs.declared.Next.{Next}
 use Rattle.ledger_asked.specs.Names.{headNamed}
 use Rattle.ledger_stores.specs.Effects.{pairNamed, effectNamed, Leaves}
 use Rattle.ledger_stores.proofs.Fits.{Fits, effect-fits}
 use Rattle.ledger_stores.proofs.Stored.{place-absent}
 use Rattle.ledger_stores.proofs.LentStep as step
-use Rattle.ledger_stores.specs.declared.call.Applied.{Applied}
+use Rattle.ledger_stores.specs.declared.Applied.{Applied}
 use Rattle.ledger_stores.specs.Applies.{appliedOf, Lent, lent, Stores}
 
 pub record Done (gs : List RegistryState) (m : ℕ) (ws : List CredentialState) (n : ℕ) (s : List ℕ) (gs′ : List RegistryState) (ws′ : List CredentialState) (r : Applied) : Type 0 where

@@ -3,15 +3,15 @@ use Prim.Native.Nat.{ℕ, _+_}
 use mathlib.Core.Path.{_≡_}
 use mathlib.Core.List.{List}
 use lib.ListN.{set}
-use Rattle.registry_state.specs.declared.state.RegistryState.{RegistryState}
-use Rattle.registry_state_credential.specs.declared.state.CredentialState.{CredentialState}
+use Rattle.registry_state.specs.declared.RegistryState.{RegistryState}
+use Rattle.registry_state_credential.specs.declared.CredentialState.{CredentialState}
 use Rattle.ledger_step.specs.Ledgers.{heldOf}
 use Rattle.ledger_step.specs.Steps.{Effect, heldNow}
 use Rattle.ledger_step.specs.Steps.Effect.{refuse, newRegistry, setRegistry, newRow, setRow}
 use Rattle.ledger_rows.specs.Rows.{findAt}
 use Rattle.ledger_registries.specs.Registries.{findRegistry}
-use Rattle.ledger_stores.specs.declared.call.Next.{Next}
-use Rattle.ledger_stores.specs.declared.call.Applied.{Applied}
+use Rattle.ledger_stores.specs.declared.Next.{Next}
+use Rattle.ledger_stores.specs.declared.Applied.{Applied}
 
 abbrev pub appliedOf : Next → Applied
 appliedOf x = record { answer = x .answer; «registry_count» = x .«registry_count»; «row_count» = x .«row_count» }

@@ -15,17 +15,17 @@ use denote.Array.{Array}
 use denote.Laws.{Is, Tells}
 use denote.Slice.{Room}
 use denote.Struct.Laws as LL
-use Rattle.registry_state.specs.declared.state.RegistryState.{RegistryState}
-use Rattle.registry_state_credential.specs.declared.state.CredentialState.{CredentialState}
-use Rattle.registry_state.proofs.state.RegistryState as G
-use Rattle.registry_state.proofs.state.RegistryState.Laws as G′
-use Rattle.registry_state_credential.proofs.state.CredentialState as T
-use Rattle.registry_state_credential.proofs.state.CredentialState.Laws as T′
+use Rattle.registry_state.specs.declared.RegistryState.{RegistryState}
+use Rattle.registry_state_credential.specs.declared.CredentialState.{CredentialState}
+use Rattle.registry_state.proofs.RegistryState as G
+use Rattle.registry_state.proofs.RegistryState.Laws as G′
+use Rattle.registry_state_credential.proofs.CredentialState as T
+use Rattle.registry_state_credential.proofs.CredentialState.Laws as T′
 use Rattle.ledger_step.specs.Ledgers.{lentLedger}
 use Rattle.ledger_table.specs.Tables.{viewLedger}
-use Rattle.ledger_table.specs.declared.table.Ledger.{Ledger}
-use Rattle.ledger_table.proofs.table.Ledger as K
-use Rattle.ledger_table.proofs.table.Ledger.Laws as K′
+use Rattle.ledger_table.specs.declared.Ledger.{Ledger}
+use Rattle.ledger_table.proofs.Ledger as K
+use Rattle.ledger_table.proofs.Ledger.Laws as K′
 use Rattle.ledger_table.proofs.ArrayFields as field
 
 -- the machine values of the arrays

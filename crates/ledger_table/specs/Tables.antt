@@ -2,7 +2,7 @@
 use Rattle.ledger_step.specs.Ledgers as L
 use Rattle.ledger_image.specs.Images.{ImageAnswer, ledgerOf}
 use Rattle.ledger_image.specs.Images.ImageAnswer.{refused, held}
-use Rattle.ledger_table.specs.declared.table.Ledger.{Ledger}
+use Rattle.ledger_table.specs.declared.Ledger.{Ledger}
 
 -- the ledger that is handed in where both arrays are lent, each with its count
 unfoldable pub viewLedger : Ledger → L.Ledger

@@ -18,8 +18,8 @@ use Rattle.laws.specs.Room.{put}
 use Rattle.laws.proofs.Room.{put-sets, length-put, sets-append}
 use Rattle.registry_bytes.proofs.StateWrites.{part-stored}
 use Rattle.registry_state.specs.States.{Registry, viewRegistry, registryBytes}
-use Rattle.registry_state.specs.declared.state.RegistryState.{RegistryState}
-use Rattle.registry_state_credential.specs.declared.state.CredentialState.{CredentialState}
+use Rattle.registry_state.specs.declared.RegistryState.{RegistryState}
+use Rattle.registry_state_credential.specs.declared.CredentialState.{CredentialState}
 use Rattle.registry_state.proofs.StateLoops.{length-registry}
 use Rattle.ledger_step.specs.Ledgers.{Ledger, heldOf, lentLedger, sound}
 use Rattle.ledger_step.proofs.Rules.{parts}
@@ -29,7 +29,7 @@ use Rattle.ledger_sections.specs.RegistrySections.{sectionOf}
 use Rattle.ledger_sections.specs.RowImages.{writtenRows}
 use Rattle.ledger_sections.proofs.RowSections.{written-section}
 use Rattle.ledger_written.specs.Writes.{imageSize, answerOf, viewWritten, withSections}
-use Rattle.ledger_written.specs.declared.answer.Written as Code
+use Rattle.ledger_written.specs.declared.Written as Code
 
 states-are : (gs : List RegistryState) → map stateOf (map heldOf gs) ≡ map viewRegistry gs
 states-are [] = refl

@@ -5,7 +5,7 @@ use mathlib.Core.List.{List}
 use lib.ListN.{length}
 use lib.Seq.{sets}
 use Rattle.ledger_image.specs.Images.{Written}
-use Rattle.ledger_written.specs.declared.answer.Written as Code
+use Rattle.ledger_written.specs.declared.Written as Code
 
 -- what the code answers and leaves in the buffer stands for
 abbrev pub viewWritten : Code.Written → List ℕ → Written

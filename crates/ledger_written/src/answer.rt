@@ -1,14 +1,9 @@
 // What is answered where an image is to be written, and whether a buffer has room for it (docs/RULES.md, "Image").
+use crate::Written;
 ghost use mathlib.Core.Path.{_≡_};
 ghost use mathlib.Core.Bool.{not};
 ghost use lib.Dec.{eqb, leb};
 ghost use Rattle.ledger_written.specs.Writes.{imageSize, answerOf};
-
-// What writing an image answers: 0, or the refusal 1 or 30, and how many bytes the image has, or 0 after a refusal.
-pub struct Written {
-    pub number: u8,
-    pub size: usize,
-}
 
 // Whether the buffer has room for the first section, of `first` bytes, and the second: two bytes for its count and 115 for each row.
 fn has_room(first: usize, row_count: usize, room: usize) -> bool

@@ -12,35 +12,35 @@ use types.Run.{OneOf, miss}
 use denote.Enum.Declared.{tagOf}
 use borrow.Author.Tests.{leb-true}
 use Rattle.cesr.specs.Primitives.{eqSaid}
-use Rattle.cesr_sn.specs.declared.number.Sn.{Sn}
-use Rattle.cesr.specs.declared.primitive.Said.{Said}
-use Rattle.cesr.specs.declared.primitive.BasicPrefix.{BasicPrefix}
+use Rattle.cesr_sn.specs.declared.Sn.{Sn}
+use Rattle.cesr.specs.declared.Said.{Said}
+use Rattle.cesr.specs.declared.BasicPrefix.{BasicPrefix}
 use Rattle.events_tel.specs.Configs.{noBackers}
 use Rattle.events_tel.specs.TelEvents.{Event, eventAs}
 use Rattle.events_tel.specs.TelEvents.Event.{vcp, vrt, iss, rev, bis, brv}
-use Rattle.events_tel.specs.declared.tel.Kind.{Kind}
-use Rattle.events_tel.specs.declared.tel.Kind.the-variants.{Vcp, Vrt, Iss, Rev, Bis, Brv}
-use Rattle.events_tel.specs.declared.tel.TelEvent.{TelEvent}
-use Rattle.events_tel.proofs.tel.Kind.{the-type}
+use Rattle.events_tel.specs.declared.Kind.{Kind}
+use Rattle.events_tel.specs.declared.Kind.the-variants.{Vcp, Vrt, Iss, Rev, Bis, Brv}
+use Rattle.events_tel.specs.declared.TelEvent.{TelEvent}
+use Rattle.events_tel.proofs.Kind.{the-type}
 use Rattle.codec.specs.Layout.{goodEvent}
 use Rattle.registry_state.specs.States.{Registry, viewRegistry, wellRegistry}
-use Rattle.registry_state.specs.declared.state.RegistryState.{RegistryState}
+use Rattle.registry_state.specs.declared.RegistryState.{RegistryState}
 use Rattle.registry_wire.specs.Attempts.{Message, goodMessage, viewAttempt, viewDecoded, decodeOf}
 use Rattle.registry_signatures.specs.SignatureSections.{Signature}
-use Rattle.registry_wire.specs.declared.attempt.Attempt.{Attempt}
-use Rattle.registry_wire.specs.declared.attempt.DecodedAttempt.{DecodedAttempt}
+use Rattle.registry_wire.specs.declared.Attempt.{Attempt}
+use Rattle.registry_wire.specs.declared.DecodedAttempt.{DecodedAttempt}
 use Rattle.registry_answer.specs.Answers.{accepts, acceptIf, orElse, firstOf}
-use Rattle.registry_error.specs.declared.error.Answer.{Answer}
-use Rattle.registry_error.specs.declared.error.Answer.the-variants.{Accepted, Rejected}
-use Rattle.registry_error.specs.declared.error.RegistryRejection.{RegistryRejection}
-use Rattle.registry_error.specs.declared.error.RegistryRejection.the-variants.{Malformed, NotManagementRotation, TooManyBackers, InconsistentRegistry, RotationOnBackerlessRegistry, PriorDigestMismatch}
+use Rattle.registry_error.specs.declared.Answer.{Answer}
+use Rattle.registry_error.specs.declared.Answer.the-variants.{Accepted, Rejected}
+use Rattle.registry_error.specs.declared.RegistryRejection.{RegistryRejection}
+use Rattle.registry_error.specs.declared.RegistryRejection.the-variants.{Malformed, NotManagementRotation, TooManyBackers, InconsistentRegistry, RotationOnBackerlessRegistry, PriorDigestMismatch}
 use Rattle.registry_authentication.proofs.AnchorUse.{judged-decoded, judged-malformed}
 use Rattle.registry_authentication.specs.Issuers.{authenticateIssuer}
 use Rattle.registry_backing.specs.Backings.{enoughReceipts}
 use Rattle.registry_inception.specs.InceptionFolds.{Outcome, thresholdFits, viewOutcome}
 use Rattle.registry.specs.RegistryFolds.{vrtBackers, vrtAnswer, ingestEvent, rotated, ingestMessage, ingestDecoded, ingestOf, Ingested}
 use Rattle.registry_verification.specs.Sequence.{nextSn}
-use Rattle.registry_inception.specs.declared.registry.RegistryOutcome.{RegistryOutcome}
+use Rattle.registry_inception.specs.declared.RegistryOutcome.{RegistryOutcome}
 use Rattle.registry_answer.proofs.AnswerLaws.{or-first, or-second, passed, first-last}
 use Rattle.registry_inception.proofs.WellLaws.{Lettered, well-by-view}
 use Rattle.registry.proofs.WellLaws.{good-rotated, well-view}

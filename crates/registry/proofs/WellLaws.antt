@@ -8,9 +8,9 @@ use mathlib.Core.Bool.{Bool, true, false, cond, _&&_}
 use lib.Dec.{leb}
 use Rattle.laws.proofs.Tests.{and-left, and-right}
 use Rattle.cesr.specs.Primitives.{isSaid}
-use Rattle.cesr.specs.declared.primitive.Said.{Said}
-use Rattle.cesr.specs.declared.primitive.BasicPrefix.{BasicPrefix}
-use Rattle.cesr_sn.specs.declared.number.Sn.{Sn}
+use Rattle.cesr.specs.declared.Said.{Said}
+use Rattle.cesr.specs.declared.BasicPrefix.{BasicPrefix}
+use Rattle.cesr_sn.specs.declared.Sn.{Sn}
 use Rattle.events_tel.specs.Configs.{viewConfigs}
 use Rattle.events.specs.Members.{view, has}
 use Rattle.events_tel.specs.TelEvents.Event.{vrt}
@@ -18,7 +18,7 @@ use Rattle.codec_cursor.specs.Readers.{isIdentifier}
 use Rattle.codec.specs.Events.{isConfig}
 use Rattle.codec.specs.Layout.{all, goodSaid, goodToad, goodSn, goodPrefixes, goodEvent}
 use Rattle.registry_state.specs.States.{Registry, viewRegistry, isBacker, wellRegistry}
-use Rattle.registry_state.specs.declared.state.RegistryState.{RegistryState}
+use Rattle.registry_state.specs.declared.RegistryState.{RegistryState}
 use Rattle.registry_members.specs.Updated.{survivors, updatedMembers}
 use Rattle.registry.specs.RegistryFolds.{rotated}
 use Rattle.registry_inception.proofs.WellLaws.{Lettered, good-letter, good-backers}

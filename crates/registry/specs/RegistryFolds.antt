@@ -6,21 +6,21 @@ use mathlib.Core.Bool.{true, false, not, cond}
 use lib.Dec.{leb}
 use lib.ListN.{length}
 use Rattle.cesr.specs.Primitives.{eqSaid}
-use Rattle.cesr_sn.specs.declared.number.Sn.{Sn}
-use Rattle.cesr.specs.declared.primitive.Said.{Said}
-use Rattle.cesr.specs.declared.primitive.BasicPrefix.{BasicPrefix}
+use Rattle.cesr_sn.specs.declared.Sn.{Sn}
+use Rattle.cesr.specs.declared.Said.{Said}
+use Rattle.cesr.specs.declared.BasicPrefix.{BasicPrefix}
 use Rattle.events.specs.Members.{checkDeltas, checkCurrent}
 use Rattle.events_tel.specs.TelEvents.{Event}
 use Rattle.events_tel.specs.TelEvents.Event.{vcp, vrt, iss, rev, bis, brv}
 use Rattle.registry_state.specs.States.{Registry, viewRegistry, wellRegistry}
-use Rattle.registry_state.specs.declared.state.RegistryState.{RegistryState}
+use Rattle.registry_state.specs.declared.RegistryState.{RegistryState}
 use Rattle.registry_wire.specs.Attempts.{Message, Decoded, decodeOf, viewAttempt}
 use Rattle.registry_signatures.specs.SignatureSections.{Signature}
 use Rattle.registry_wire.specs.Attempts.Decoded.{malformed, decoded}
-use Rattle.registry_wire.specs.declared.attempt.Attempt.{Attempt}
-use Rattle.registry_error.specs.declared.error.RegistryRejection.the-variants.{Malformed, DuplicateInception, NotManagementRotation, InconsistentRegistry, RotationOnBackerlessRegistry, PriorDigestMismatch, TooManyBackers}
-use Rattle.registry_error.specs.declared.error.Answer.{Answer}
-use Rattle.registry_error.specs.declared.error.Answer.the-variants.{Rejected}
+use Rattle.registry_wire.specs.declared.Attempt.{Attempt}
+use Rattle.registry_error.specs.declared.RegistryRejection.the-variants.{Malformed, DuplicateInception, NotManagementRotation, InconsistentRegistry, RotationOnBackerlessRegistry, PriorDigestMismatch, TooManyBackers}
+use Rattle.registry_error.specs.declared.Answer.{Answer}
+use Rattle.registry_error.specs.declared.Answer.the-variants.{Rejected}
 use Rattle.registry_answer.specs.Answers.{accepts, acceptIf, backerSet, firstOf}
 use Rattle.registry_verification.specs.Sequence.{nextSn}
 use Rattle.registry_members.specs.Updated.{updatedMembers}
@@ -28,7 +28,7 @@ use Rattle.registry_authentication.specs.Issuers.{authenticateIssuer}
 use Rattle.registry_backing.specs.Backings.{enoughReceipts}
 use Rattle.registry_backer.specs.Backers.{isBackerless}
 use Rattle.registry_inception.specs.InceptionFolds.{Outcome, thresholdFits, viewOutcome}
-use Rattle.registry_inception.specs.declared.registry.RegistryOutcome.{RegistryOutcome}
+use Rattle.registry_inception.specs.declared.RegistryOutcome.{RegistryOutcome}
 
 -- 24 to 27 of a vrt: the rules on its lists, then the limit, the toad and the receipts of the members after it
 unfoldable pub vrtBackers : List BasicPrefix → ℕ → List BasicPrefix → List BasicPrefix → List Signature → Answer

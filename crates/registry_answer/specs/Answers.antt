@@ -1,12 +1,12 @@
 -- Answers, and the order of checks (docs/RULES.md, "Orders").
 use mathlib.Core.List.{List, [], _∷_}
 use mathlib.Core.Bool.{Bool, true, false, cond}
-use Rattle.events.specs.declared.member_set.Membership.{Membership}
-use Rattle.events.specs.declared.member_set.Membership.the-variants.{Sound, Broken}
-use Rattle.registry_error.specs.declared.error.RegistryRejection.{RegistryRejection}
-use Rattle.registry_error.specs.declared.error.RegistryRejection.the-variants.{BackerSet}
-use Rattle.registry_error.specs.declared.error.Answer.{Answer}
-use Rattle.registry_error.specs.declared.error.Answer.the-variants.{Accepted, Rejected}
+use Rattle.events.specs.declared.Membership.{Membership}
+use Rattle.events.specs.declared.Membership.the-variants.{Sound, Broken}
+use Rattle.registry_error.specs.declared.RegistryRejection.{RegistryRejection}
+use Rattle.registry_error.specs.declared.RegistryRejection.the-variants.{BackerSet}
+use Rattle.registry_error.specs.declared.Answer.{Answer}
+use Rattle.registry_error.specs.declared.Answer.the-variants.{Accepted, Rejected}
 
 abbrev pub accepts : Answer → Bool
 accepts Accepted = true

@@ -1,7 +1,7 @@
 // Answers, and the order of checks (docs/RULES.md, "Orders").
-use events::member_set::Membership;
-use registry_error::error::Answer;
-use registry_error::error::RegistryRejection;
+use events::Membership;
+use registry_error::Answer;
+use registry_error::RegistryRejection;
 ghost use mathlib.Core.Path.{_≡_};
 ghost use Rattle.registry_answer.specs.Answers.{accepts, acceptIf, backerSet, orElse};
 

@@ -9,12 +9,12 @@ use lib.Dec.{leb}
 use lib.ListN.{length}
 use Rattle.laws.specs.Number.{Bytes}
 use Rattle.laws.proofs.Tests.{and-left, and-right}
-use Rattle.cesr_sn.specs.declared.number.Sn.{Sn}
-use Rattle.cesr.specs.declared.primitive.Matter.{Matter}
-use Rattle.cesr.specs.declared.primitive.Said.{Said}
+use Rattle.cesr_sn.specs.declared.Sn.{Sn}
+use Rattle.cesr.specs.declared.Matter.{Matter}
+use Rattle.cesr.specs.declared.Said.{Said}
 use Rattle.codec.specs.Layout.{joined, all}
 use Rattle.registry_wire.specs.Attempts.{Anchor, anchorBytes, goodAnchor, goodAnchors}
-use Rattle.registry_source.specs.declared.source.Source.{Source}
+use Rattle.registry_source.specs.declared.Source.{Source}
 use Rattle.registry_wire.proofs.AttemptLaws.{anchor-some}
 use Rattle.registry_wire.proofs.AnchorLaws.{event-head, event-seals, one-event}
 use Rattle.registry_authentication.specs.Issuers.{anchored, anchoredIn}

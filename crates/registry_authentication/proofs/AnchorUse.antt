@@ -15,9 +15,9 @@ use lib.ListN.{length}
 use Rattle.laws.specs.Number.{Bytes}
 use Rattle.laws.proofs.Tests.{and-left, and-right}
 use Rattle.cesr.specs.Primitives.{readMatter}
-use Rattle.cesr_sn.specs.declared.number.Sn.{Sn}
-use Rattle.cesr.specs.declared.primitive.Matter.{Matter}
-use Rattle.cesr.specs.declared.primitive.Said.{Said}
+use Rattle.cesr_sn.specs.declared.Sn.{Sn}
+use Rattle.cesr.specs.declared.Matter.{Matter}
+use Rattle.cesr.specs.declared.Said.{Said}
 use Rattle.codec.specs.Layout.{joined, all, goodEvent, goodIdentifier}
 use Rattle.registry_source.specs.Sources.{goodSource}
 use Rattle.registry_wire.specs.Attempts.{Anchor, Decoded, anchorBytes, goodAnchors, goodEvidence, goodMessage, chosenAnchors, anchorsIn, sourcesIn, evidenceOf, evidenceAs, evidenceIn, viewAttempt, viewDecoded, decodeOf, partOf, Holds}
@@ -25,10 +25,10 @@ use Rattle.registry_signatures.specs.SignatureSections.{goodSignature}
 use Rattle.registry_seals.specs.SealSections.{chosen}
 use Rattle.registry_wire.specs.Attempts.Evidence.{issuer}
 use Rattle.registry_wire.specs.Attempts.Decoded.{malformed, decoded}
-use Rattle.registry_source.specs.declared.source.Source.{Source}
-use Rattle.registry_wire.specs.declared.attempt.Part.{Part}
-use Rattle.registry_wire.specs.declared.attempt.Attempt.{Attempt}
-use Rattle.registry_wire.specs.declared.attempt.DecodedAttempt.{DecodedAttempt}
+use Rattle.registry_source.specs.declared.Source.{Source}
+use Rattle.registry_wire.specs.declared.Part.{Part}
+use Rattle.registry_wire.specs.declared.Attempt.{Attempt}
+use Rattle.registry_wire.specs.declared.DecodedAttempt.{DecodedAttempt}
 use Rattle.registry_wire.proofs.AnchorLaws.{used-event, part-bytes}
 use Rattle.registry_wire.proofs.CodesAttempt.{decodes}
 use Rattle.registry_answer.specs.Answers.{firstOf}

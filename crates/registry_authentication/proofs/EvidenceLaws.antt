@@ -8,13 +8,13 @@ use mathlib.Core.Bool.{Bool, true, false, false≢true}
 use borrow.Author.Tests.{ne-eqb}
 use lib.Dec.{eqb}
 use Rattle.cesr.specs.Primitives.{eqMatter}
-use Rattle.cesr.specs.declared.primitive.Matter.{Matter}
+use Rattle.cesr.specs.declared.Matter.{Matter}
 use Rattle.registry_state.specs.States.{Registry}
 use Rattle.registry_wire.specs.Attempts.{Evidence, evidenceOf}
-use Rattle.registry_wire.specs.declared.attempt.Part.{Part}
-use Rattle.registry_error.specs.declared.error.Answer.{Answer}
-use Rattle.registry_error.specs.declared.error.Answer.the-variants.{Rejected}
-use Rattle.registry_error.specs.declared.error.RegistryRejection.the-variants.{InconsistentIssuer}
+use Rattle.registry_wire.specs.declared.Part.{Part}
+use Rattle.registry_error.specs.declared.Answer.{Answer}
+use Rattle.registry_error.specs.declared.Answer.the-variants.{Rejected}
+use Rattle.registry_error.specs.declared.RegistryRejection.the-variants.{InconsistentIssuer}
 use Rattle.registry_answer.specs.Answers.{accepts, acceptIf, firstOf}
 use Rattle.registry_answer.proofs.AnswerLaws.{first-refused, first-accepted, first-failed, first-passed, first-last}
 use Rattle.registry_authentication.specs.Issuers.{issuerKind, namesIssuer}

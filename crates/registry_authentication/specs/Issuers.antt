@@ -7,18 +7,18 @@ use lib.Dec.{eqb}
 use lib.ListN.{length}
 use Rattle.cesr_sn.specs.Numbers.{value, readSn}
 use Rattle.cesr.specs.Primitives.{eqMatter, eqSaid, readMatter}
-use Rattle.cesr_sn.specs.declared.number.Sn.{Sn}
-use Rattle.cesr.specs.declared.primitive.Matter.{Matter}
-use Rattle.cesr.specs.declared.primitive.Said.{Said}
+use Rattle.cesr_sn.specs.declared.Sn.{Sn}
+use Rattle.cesr.specs.declared.Matter.{Matter}
+use Rattle.cesr.specs.declared.Said.{Said}
 use Rattle.registry_wire.specs.Attempts.{Anchor, Evidence, Message, chosenAnchors}
 use Rattle.registry_seals.specs.SealSections.{onlySeal, sealSection, anchorSeals}
 use Rattle.registry_wire.specs.Attempts.Evidence.{missing, issuer, backer, backerAt}
 use Rattle.registry_wire.specs.Attempts.{goodAnchors, anchorsIn, Holds}
-use Rattle.registry_wire.specs.declared.attempt.Attempt.{Attempt}
-use Rattle.registry_source.specs.declared.source.Source.{Source}
-use Rattle.registry_error.specs.declared.error.RegistryRejection.the-variants.{MissingIssuer, InconsistentIssuer, MissingAnchor, InconsistentAnchor}
-use Rattle.registry_error.specs.declared.error.Answer.{Answer}
-use Rattle.registry_error.specs.declared.error.Answer.the-variants.{Accepted, Rejected}
+use Rattle.registry_wire.specs.declared.Attempt.{Attempt}
+use Rattle.registry_source.specs.declared.Source.{Source}
+use Rattle.registry_error.specs.declared.RegistryRejection.the-variants.{MissingIssuer, InconsistentIssuer, MissingAnchor, InconsistentAnchor}
+use Rattle.registry_error.specs.declared.Answer.{Answer}
+use Rattle.registry_error.specs.declared.Answer.the-variants.{Accepted, Rejected}
 use Rattle.registry_answer.specs.Answers.{acceptIf, firstOf}
 
 -- 18 or 19: the evidence that is due is Issuer

@@ -1,28 +1,28 @@
 // The issuer's evidence and the anchoring event (docs/RULES.md, "Evidence", "Anchoring events").
-use cesr::primitive::Matter;
-use cesr::primitive::Said;
-use cesr_sn::number::Sn;
-use codec_cursor::cursor::Cursor;
+use cesr::Matter;
+use cesr::Said;
+use cesr_sn::Sn;
+use codec_cursor::Cursor;
 use registry_answer::answer::accept_if;
 use registry_answer::answer::accepts;
-use registry_error::error::Answer;
-use registry_error::error::RegistryRejection;
+use registry_error::Answer;
+use registry_error::RegistryRejection;
 use registry_seals::seals::anchor_seals;
 use registry_seals::seals::chosen;
 use registry_seals::seals::chosen_seals;
-use registry_source::source::Source;
-use registry_wire::attempt::Part;
+use registry_source::Source;
+use registry_wire::Part;
 ghost use Prim.Native.Nat.{ℕ};
 ghost use mathlib.Core.Path.{_≡_};
 ghost use mathlib.Core.List.{List};
 ghost use Rattle.cesr.specs.Primitives.{readMatter, saidAt};
-ghost use Rattle.cesr.specs.declared.primitive.Matter.{Matter as MatterValue};
+ghost use Rattle.cesr.specs.declared.Matter.{Matter as MatterValue};
 ghost use Rattle.registry_state.specs.States.{optional};
-ghost use Rattle.codec_cursor.specs.declared.cursor.Cursor.{Cursor as CursorValue};
+ghost use Rattle.codec_cursor.specs.declared.Cursor.{Cursor as CursorValue};
 ghost use Rattle.registry_source.specs.Sources.{readSource};
 ghost use Rattle.registry_wire.specs.Attempts.{evidenceAs, partOf};
 ghost use Rattle.registry_seals.specs.SealSections.{chosen as chosenEvent};
-ghost use Rattle.registry_wire.specs.declared.attempt.Part.{Part as PartValue};
+ghost use Rattle.registry_wire.specs.declared.Part.{Part as PartValue};
 ghost use Rattle.registry_authentication.specs.Issuers.{issuerKind, namesIssuer, anchoredIn, authenticateIn};
 
 // Whether the evidence that is due, Issuer, is there: by its byte, whatever it holds.

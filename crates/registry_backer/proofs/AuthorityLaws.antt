@@ -13,20 +13,20 @@ use mathlib.Core.Bool.{Bool, true, false, _&&_, false≢true}
 use borrow.Author.Tests.{eqb-true, ne-eqb}
 use lib.Dec.{eqb}
 use Rattle.cesr.specs.Primitives.{eqMatter}
-use Rattle.cesr.specs.declared.primitive.Matter.{Matter}
-use Rattle.cesr.specs.declared.primitive.Said.{Said}
-use Rattle.cesr_sn.specs.declared.number.Sn.{Sn}
+use Rattle.cesr.specs.declared.Matter.{Matter}
+use Rattle.cesr.specs.declared.Said.{Said}
+use Rattle.cesr_sn.specs.declared.Sn.{Sn}
 use Rattle.events_seal.specs.Identifiers.{matterOf}
-use Rattle.events_seal.specs.declared.seal.Seal.{Seal}
-use Rattle.events_seal.specs.declared.seal.Seal.the-variants.{Digest, Root, Source, Event, Last, Back, Kind, Opaque}
+use Rattle.events_seal.specs.declared.Seal.{Seal}
+use Rattle.events_seal.specs.declared.Seal.the-variants.{Digest, Root, Source, Event, Last, Back, Kind, Opaque}
 use Rattle.registry_state.specs.States.{Registry}
 use Rattle.registry_signatures.specs.SignatureSections.{Signature}
 use Rattle.registry_wire.specs.Attempts.{Evidence, evidenceOf}
 use Rattle.registry_wire.specs.Attempts.Evidence.{missing, issuer, backer, backerAt}
-use Rattle.registry_wire.specs.declared.attempt.Part.{Part}
-use Rattle.registry_error.specs.declared.error.Answer.{Answer}
-use Rattle.registry_error.specs.declared.error.Answer.the-variants.{Accepted, Rejected}
-use Rattle.registry_error.specs.declared.error.RegistryRejection.the-variants.{InconsistentRegistry, UnresolvedAnchor}
+use Rattle.registry_wire.specs.declared.Part.{Part}
+use Rattle.registry_error.specs.declared.Answer.{Answer}
+use Rattle.registry_error.specs.declared.Answer.the-variants.{Accepted, Rejected}
+use Rattle.registry_error.specs.declared.RegistryRejection.the-variants.{InconsistentRegistry, UnresolvedAnchor}
 use Rattle.registry_answer.specs.Answers.{accepts, acceptIf, orElse, firstOf}
 use Rattle.registry_answer.proofs.AnswerLaws.{first-refused, first-accepted, first-last}
 use Rattle.registry_backing.specs.Backings.{backedBy, ownWhere}

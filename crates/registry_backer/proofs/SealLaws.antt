@@ -7,14 +7,14 @@ use mathlib.Core.List.{List, [], _∷_}
 use mathlib.Core.Bool.{false}
 use types.Run.{OneOf, miss}
 use denote.Enum.Declared.{tagOf}
-use Rattle.cesr.specs.declared.primitive.Said.{Said}
-use Rattle.events_seal.proofs.seal.Seal.{the-type}
-use Rattle.events_seal.specs.declared.seal.Seal.{Seal}
-use Rattle.events_seal.specs.declared.seal.Seal.the-variants.{Digest, Root, Source, Event, Last, Back, Kind, Opaque}
+use Rattle.cesr.specs.declared.Said.{Said}
+use Rattle.events_seal.proofs.Seal.{the-type}
+use Rattle.events_seal.specs.declared.Seal.{Seal}
+use Rattle.events_seal.specs.declared.Seal.the-variants.{Digest, Root, Source, Event, Last, Back, Kind, Opaque}
 use Rattle.registry_state.specs.States.{Registry}
 use Rattle.registry_wire.specs.Attempts.{Evidence}
-use Rattle.registry_error.specs.declared.error.Answer.the-variants.{Rejected}
-use Rattle.registry_error.specs.declared.error.RegistryRejection.the-variants.{InconsistentManagement}
+use Rattle.registry_error.specs.declared.Answer.the-variants.{Rejected}
+use Rattle.registry_error.specs.declared.RegistryRejection.the-variants.{InconsistentManagement}
 use Rattle.registry_backer.specs.Backers.{namesRegistry, resolved}
 
 abbrev no-event : List ℕ

@@ -5,19 +5,19 @@ use lib.Dec.{eqb}
 use Rattle.laws.specs.Words.{sameList}
 use Rattle.cesr_sn.specs.Numbers.{value}
 use Rattle.cesr.specs.Primitives.{eqMatter, eqSaid}
-use Rattle.cesr_sn.specs.declared.number.Sn.{Sn}
-use Rattle.cesr.specs.declared.primitive.Said.{Said}
+use Rattle.cesr_sn.specs.declared.Sn.{Sn}
+use Rattle.cesr.specs.declared.Said.{Said}
 use Rattle.events_seal.specs.Identifiers.{matterOf}
 use Rattle.events_tel.specs.Configs.{noBackers}
-use Rattle.events_seal.specs.declared.seal.Seal.{Seal}
-use Rattle.events_seal.specs.declared.seal.Seal.the-variants.{Digest, Root, Source, Event, Last, Back, Kind, Opaque}
+use Rattle.events_seal.specs.declared.Seal.{Seal}
+use Rattle.events_seal.specs.declared.Seal.the-variants.{Digest, Root, Source, Event, Last, Back, Kind, Opaque}
 use Rattle.registry_state.specs.States.{Registry}
 use Rattle.registry_signatures.specs.SignatureSections.{Signature}
 use Rattle.registry_wire.specs.Attempts.{Evidence}
 use Rattle.registry_wire.specs.Attempts.Evidence.{missing, issuer, backer, backerAt}
-use Rattle.registry_error.specs.declared.error.RegistryRejection.the-variants.{InconsistentRegistry, InconsistentIssuer, InconsistentManagement, UnresolvedAnchor}
-use Rattle.registry_error.specs.declared.error.Answer.{Answer}
-use Rattle.registry_error.specs.declared.error.Answer.the-variants.{Accepted, Rejected}
+use Rattle.registry_error.specs.declared.RegistryRejection.the-variants.{InconsistentRegistry, InconsistentIssuer, InconsistentManagement, UnresolvedAnchor}
+use Rattle.registry_error.specs.declared.Answer.{Answer}
+use Rattle.registry_error.specs.declared.Answer.the-variants.{Accepted, Rejected}
 use Rattle.registry_answer.specs.Answers.{acceptIf, orElse, firstOf}
 use Rattle.registry_backing.specs.Backings.{backedBy}
 

@@ -1,25 +1,25 @@
 // The authority of a bis or brv (docs/RULES.md, "Evidence").
-use cesr::primitive::Said;
-use cesr_sn::number::Sn;
-use codec_cursor::cursor::Cursor;
-use events_seal::seal::Seal;
+use cesr::Said;
+use cesr_sn::Sn;
+use codec_cursor::Cursor;
+use events_seal::Seal;
 use registry_answer::answer::accept_if;
 use registry_answer::answer::accepts;
 use registry_backing::backing::backed_in;
-use registry_error::error::Answer;
-use registry_error::error::RegistryRejection;
-use registry_management::management::Management;
-use registry_management::management::read_management;
-use registry_signatures::signatures::Counted;
+use registry_error::Answer;
+use registry_error::RegistryRejection;
+use registry_management::Management;
+use registry_management::read_management;
+use registry_signatures::Counted;
 ghost use Prim.Native.Nat.{ℕ};
 ghost use mathlib.Core.Path.{_≡_};
 ghost use mathlib.Core.List.{List};
-ghost use Rattle.cesr.specs.declared.primitive.Matter.{Matter};
-ghost use Rattle.cesr.specs.declared.primitive.BasicPrefix.{BasicPrefix};
+ghost use Rattle.cesr.specs.declared.Matter.{Matter};
+ghost use Rattle.cesr.specs.declared.BasicPrefix.{BasicPrefix};
 ghost use Rattle.registry_management.specs.Managements.{viewManagement};
 ghost use Rattle.registry_wire.specs.Attempts.{evidenceOf, evidenceAs};
 ghost use Rattle.registry_signatures.specs.SignatureSections.{signaturesIn};
-ghost use Rattle.registry_wire.specs.declared.attempt.Part.{Part};
+ghost use Rattle.registry_wire.specs.declared.Part.{Part};
 ghost use Rattle.registry_backer.specs.Backers.{sameRegistry, standsAt, resolvedBy, namesRegistry, resolved, resolvedBacker};
 
 // Whether two states are of one registry: id, issuer and config are the same.

@@ -5,13 +5,13 @@ use mathlib.Core.Path.{_≡_, sym, ap, _∙_}
 use mathlib.Core.List.{List, [], _∷_}
 use mathlib.Core.Bool.{true, false}
 use lib.ListN.{length}
-use Rattle.cesr.specs.declared.primitive.BasicPrefix.{BasicPrefix}
+use Rattle.cesr.specs.declared.BasicPrefix.{BasicPrefix}
 use Rattle.events.specs.Members.{checkMembers}
 use Rattle.events_toad.specs.Toads.{exactOk}
 use Rattle.registry_signatures.specs.SignatureSections.{Signature}
-use Rattle.registry_error.specs.declared.error.Answer.{Answer}
-use Rattle.registry_error.specs.declared.error.Answer.the-variants.{Rejected}
-use Rattle.registry_error.specs.declared.error.RegistryRejection.the-variants.{BackerThreshold}
+use Rattle.registry_error.specs.declared.Answer.{Answer}
+use Rattle.registry_error.specs.declared.Answer.the-variants.{Rejected}
+use Rattle.registry_error.specs.declared.RegistryRejection.the-variants.{BackerThreshold}
 use Rattle.registry_answer.specs.Answers.{accepts, acceptIf, backerSet, firstOf}
 use Rattle.registry_answer.proofs.AnswerLaws.{first-refused, first-accepted, first-failed, first-passed, first-last}
 use Rattle.registry_backing.specs.Backings.{enoughReceipts, backedBy}

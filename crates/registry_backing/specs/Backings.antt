@@ -5,14 +5,14 @@ use mathlib.Core.List.{List, [], _∷_}
 use mathlib.Core.Bool.{Bool, cond}
 use lib.Dec.{leb}
 use lib.ListN.{length}
-use Rattle.cesr.specs.declared.primitive.BasicPrefix.{BasicPrefix}
+use Rattle.cesr.specs.declared.BasicPrefix.{BasicPrefix}
 use Rattle.events.specs.Members.{checkMembers}
-use Rattle.events.specs.declared.member_set.Membership.{Membership}
+use Rattle.events.specs.declared.Membership.{Membership}
 use Rattle.events_toad.specs.Toads.{exactOk}
 use Rattle.registry_signatures.specs.SignatureSections.{Signature}
-use Rattle.registry_error.specs.declared.error.RegistryRejection.the-variants.{BackerThreshold, MissingBackerReceipts}
-use Rattle.registry_error.specs.declared.error.Answer.{Answer}
-use Rattle.registry_error.specs.declared.error.Answer.the-variants.{Accepted}
+use Rattle.registry_error.specs.declared.RegistryRejection.the-variants.{BackerThreshold, MissingBackerReceipts}
+use Rattle.registry_error.specs.declared.Answer.{Answer}
+use Rattle.registry_error.specs.declared.Answer.the-variants.{Accepted}
 use Rattle.registry_answer.specs.Answers.{acceptIf, backerSet, firstOf}
 use Rattle.registry_verification.specs.Receipts.{receipts}
 

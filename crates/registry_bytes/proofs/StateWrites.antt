@@ -17,9 +17,9 @@ use Rattle.laws.specs.Room.{put}
 use Rattle.laws.proofs.Number.{length-digits}
 use Rattle.laws.proofs.Room.{put-sets, sets-append}
 use Rattle.laws.proofs.Views.{take-step}
-use Rattle.cesr_sn.specs.declared.number.Sn.{Sn}
-use Rattle.cesr.specs.declared.primitive.Matter.{Matter}
-use Rattle.cesr.specs.declared.primitive.BasicPrefix.{BasicPrefix}
+use Rattle.cesr_sn.specs.declared.Sn.{Sn}
+use Rattle.cesr.specs.declared.Matter.{Matter}
+use Rattle.cesr.specs.declared.BasicPrefix.{BasicPrefix}
 use Rattle.cesr.proofs.Matters.{length-matter}
 use Rattle.events.specs.Members.{noPrefix, at}
 use Rattle.codec.specs.Layout.{joined, sectionBytes, byteBytes, prefixBytes}

@@ -1,12 +1,12 @@
 // The bytes of states: how many there are, and how they are stored.
-use cesr::primitive::Matter;
+use cesr::Matter;
 use cesr_number::number::has_room;
 use cesr_number::number::write_u32;
-use cesr_sn::number::Sn;
+use cesr_sn::Sn;
 use cesr_write::matter::write_matter;
-use events::member_set::Members;
-use events_tel::config::Configs;
-use events_toad::toad::Toad;
+use events::Members;
+use events_tel::Configs;
+use events_toad::Toad;
 use registry_head::head::copy_credential;
 use registry_head::head::write_credential;
 ghost use mathlib.Core.Path.{_≡_};

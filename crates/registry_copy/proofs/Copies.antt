@@ -16,19 +16,19 @@ use lib.ListN.{length, set}
 use lib.Seq.{sets, length-sets, set-comm}
 use Rattle.laws.specs.Room.{put}
 use Rattle.laws.proofs.Room.{put-sets, sets-append}
-use Rattle.cesr.specs.declared.primitive.BasicPrefix.{BasicPrefix}
+use Rattle.cesr.specs.declared.BasicPrefix.{BasicPrefix}
 use Rattle.cesr.specs.Primitives.{readMatter, matterBytes}
 use Rattle.cesr.proofs.Matters.{length-matter}
 use Rattle.events.specs.Members.{has}
 use Rattle.events_tel.specs.Configs.{viewConfigs}
-use Rattle.codec_cursor.specs.declared.cursor.Cursor.{Cursor}
+use Rattle.codec_cursor.specs.declared.Cursor.{Cursor}
 use Rattle.codec_cursor.specs.Readers.{Read, readIf, readPrefix, times}
 use Rattle.codec.specs.Layout.{joined, sectionBytes, prefixBytes}
 use Rattle.codec.proofs.Loops.{length-times}
 use Rattle.codec_laws.proofs.CodesList.{joined-append, joined-snoc}
 use Rattle.registry_bytes.proofs.StateWrites.{length-backers, length-front, state-front}
 use Rattle.registry_bytes.specs.StateBytes.{frontBytes}
-use Rattle.registry_room.specs.declared.next.NextState.{NextState}
+use Rattle.registry_room.specs.declared.NextState.{NextState}
 use Rattle.registry_room.specs.NextStates.{nextMembers, nextBytes}
 use Rattle.registry_room.proofs.Counts.{left, survivors-kept}
 

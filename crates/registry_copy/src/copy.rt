@@ -1,9 +1,10 @@
 // The next state of a registry, written. Nothing that has 33 bytes is read into a value: it is copied from where it stands.
+use crate::Written;
 use cesr_write::matter::copy_matter;
 use codec::section::at_most_16;
-use events_tel::tel::Listed;
+use events_tel::Listed;
 use registry_bytes::writer::copy_front;
-use registry_room::next::NextState;
+use registry_room::NextState;
 use registry_room::next::is_enough;
 use registry_room::next::next_size;
 use registry_rotation::deltas::found_in;
@@ -16,12 +17,6 @@ ghost use Rattle.events_tel.specs.TelEvents.{membersIn};
 ghost use Rattle.codec.specs.Layout.{joined, sectionBytes, prefixBytes};
 ghost use Rattle.registry_members.specs.Updated.{survivors};
 ghost use Rattle.registry_room.specs.NextStates.{nextMembers, nextBytes};
-
-// How many bytes a state has, and whether they found room.
-pub struct Written {
-    pub ok: bool,
-    pub size: usize,
-}
 
 // Those that are not cut, stored behind a byte.
 fn copy_survivors(held: &[u8], current: Listed, s: &[u8], cuts: Listed, out: &mut [u8]) -> usize

@@ -5,18 +5,18 @@ use mathlib.Core.Bool.{Bool, cond, _&&_}
 use lib.Dec.{eqb}
 use Rattle.cesr_sn.specs.Numbers.{value}
 use Rattle.cesr.specs.Primitives.{eqMatter, eqSaid}
-use Rattle.cesr.specs.declared.primitive.Matter.{Matter}
-use Rattle.cesr.specs.declared.primitive.Said.{Said}
+use Rattle.cesr.specs.declared.Matter.{Matter}
+use Rattle.cesr.specs.declared.Said.{Said}
 use Rattle.registry_state.specs.States.{Registry}
 use Rattle.registry_status.specs.Statuses.{Reference, Status, StatusAnswer, decodeStatus}
 use Rattle.registry_status.specs.Statuses.Reference.{unnamed, named, block}
 use Rattle.registry_status.specs.Statuses.StatusAnswer.{malformed, decoded}
-use Rattle.registry_state_credential.specs.declared.state.CredentialState.{CredentialState}
+use Rattle.registry_state_credential.specs.declared.CredentialState.{CredentialState}
 use Rattle.registry_credential_error.specs.CredentialErrors.{errorNumber}
-use Rattle.registry_credential_error.specs.declared.credential_error.CredentialError.{CredentialError}
-use Rattle.registry_credential_error.specs.declared.credential_error.CredentialError.the-variants.{MissingRegistry, MissingCredentialState, MissingIssuerState, MissingRegistryReference, RegistryMismatch, IssuerMismatch, IssuerStateMismatch, CredentialStateMismatch, Revoked}
-use Rattle.registry_credential.specs.declared.credential.StatusOutcome.{StatusOutcome}
-use Rattle.registry_credential.specs.declared.credential.StatusOutcome.the-variants.{Accepted, Malformed, Rejected}
+use Rattle.registry_credential_error.specs.declared.CredentialError.{CredentialError}
+use Rattle.registry_credential_error.specs.declared.CredentialError.the-variants.{MissingRegistry, MissingCredentialState, MissingIssuerState, MissingRegistryReference, RegistryMismatch, IssuerMismatch, IssuerStateMismatch, CredentialStateMismatch, Revoked}
+use Rattle.registry_credential.specs.declared.StatusOutcome.{StatusOutcome}
+use Rattle.registry_credential.specs.declared.StatusOutcome.the-variants.{Accepted, Malformed, Rejected}
 
 -- a check: the refusal, unless the test holds; then the rest decides
 abbrev pub check : Bool → CredentialError → StatusOutcome → StatusOutcome

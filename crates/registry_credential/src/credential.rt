@@ -1,18 +1,13 @@
 // Whether a credential is its issuer's and stands unrevoked under its registry (docs/RULES.md, "Status").
-use cesr_sn::number::Sn;
-use registry_credential_error::credential_error::CredentialError;
-use registry_status::status::StatusInput;
+use crate::CredentialVerifier;
+use crate::StatusOutcome;
+use cesr_sn::Sn;
+use registry_credential_error::CredentialError;
+use registry_status::StatusInput;
 ghost use mathlib.Core.Path.{_≡_};
 ghost use Rattle.registry_state.specs.States.{viewRegistry};
 ghost use Rattle.registry_status.specs.Statuses.{viewStatus};
 ghost use Rattle.registry_credential.specs.Status.{statusOf, judged, binding, statusNumber};
-
-// What `status` answers: its input comes as bytes, so they may be malformed.
-pub enum StatusOutcome {
-    Accepted,
-    Malformed,
-    Rejected(CredentialError),
-}
 
 impl StatusOutcome {
     // The refusal's number, or 0 where the credential is accepted.
@@ -26,9 +21,6 @@ impl StatusOutcome {
         }
     }
 }
-
-// A pure verifier: no storage, no network and no clock.
-pub struct CredentialVerifier;
 
 impl CredentialVerifier {
     // The states in the bytes are those that the caller has accepted; here they are only held against the credential.

@@ -1,10 +1,10 @@
 -- The refusals of a credential's status: their numbers and dispositions (docs/RULES.md, "Refusals").
 use Prim.Native.Nat.{ℕ}
-use Rattle.registry_disposition.specs.declared.disposition.EvidenceKind.the-variants as E
-use Rattle.registry_disposition.specs.declared.disposition.Disposition.{Disposition}
-use Rattle.registry_disposition.specs.declared.disposition.Disposition.the-variants.{Terminal, Awaiting}
-use Rattle.registry_credential_error.specs.declared.credential_error.CredentialError.{CredentialError}
-use Rattle.registry_credential_error.specs.declared.credential_error.CredentialError.the-variants as C
+use Rattle.registry_disposition.specs.declared.EvidenceKind.the-variants as E
+use Rattle.registry_disposition.specs.declared.Disposition.{Disposition}
+use Rattle.registry_disposition.specs.declared.Disposition.the-variants.{Terminal, Awaiting}
+use Rattle.registry_credential_error.specs.declared.CredentialError.{CredentialError}
+use Rattle.registry_credential_error.specs.declared.CredentialError.the-variants as C
 
 -- the refusals of a credential's status, in the order in which they are checked
 abbrev pub errorNumber : CredentialError → ℕ

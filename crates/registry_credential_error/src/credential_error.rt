@@ -1,21 +1,9 @@
 // Why a credential has no status (docs/RULES.md, "Refusals").
-use registry_disposition::disposition::Disposition;
-use registry_disposition::disposition::EvidenceKind;
+use crate::CredentialError;
+use registry_disposition::Disposition;
+use registry_disposition::EvidenceKind;
 ghost use mathlib.Core.Path.{_≡_};
 ghost use Rattle.registry_credential_error.specs.CredentialErrors.{errorNumber, errorDisposition};
-
-// The refusals of a credential's status.
-pub enum CredentialError {
-    MissingRegistry,
-    MissingCredentialState,
-    MissingIssuerState,
-    MissingRegistryReference,
-    RegistryMismatch,
-    IssuerMismatch,
-    IssuerStateMismatch,
-    CredentialStateMismatch,
-    Revoked,
-}
 
 impl CredentialError {
     pub fn number(self) -> u8

@@ -12,30 +12,30 @@ use types.Run.{OneOf, miss}
 use denote.Enum.Declared.{tagOf}
 use Rattle.laws.proofs.Tests.{and-left, and-right}
 use Rattle.cesr.specs.Primitives.{readMatter, saidAt, eqSaid}
-use Rattle.cesr.specs.declared.primitive.Said.{Said}
+use Rattle.cesr.specs.declared.Said.{Said}
 use Rattle.events_tel.specs.TelEvents.{eventAs, snOne}
-use Rattle.events_seal.specs.declared.seal.Seal.{Seal}
-use Rattle.events_tel.specs.declared.tel.Kind.{Kind}
-use Rattle.events_tel.specs.declared.tel.Kind.the-variants.{Vcp, Vrt, Iss, Rev, Bis, Brv}
-use Rattle.events_tel.specs.declared.tel.TelEvent.{TelEvent}
-use Rattle.events_tel.proofs.tel.Kind.{the-type}
+use Rattle.events_seal.specs.declared.Seal.{Seal}
+use Rattle.events_tel.specs.declared.Kind.{Kind}
+use Rattle.events_tel.specs.declared.Kind.the-variants.{Vcp, Vrt, Iss, Rev, Bis, Brv}
+use Rattle.events_tel.specs.declared.TelEvent.{TelEvent}
+use Rattle.events_tel.proofs.Kind.{the-type}
 use Rattle.registry_state.specs.States.{Registry, readRegistry}
-use Rattle.registry_state_credential.specs.declared.state.CredentialState.{CredentialState}
+use Rattle.registry_state_credential.specs.declared.CredentialState.{CredentialState}
 use Rattle.registry_wire.specs.Attempts.{Message, viewAttempt, viewDecoded, decodeOf}
-use Rattle.registry_wire.specs.declared.attempt.Attempt.{Attempt}
-use Rattle.registry_wire.specs.declared.attempt.DecodedAttempt.{DecodedAttempt}
+use Rattle.registry_wire.specs.declared.Attempt.{Attempt}
+use Rattle.registry_wire.specs.declared.DecodedAttempt.{DecodedAttempt}
 use Rattle.registry_authentication.proofs.AnchorUse.{judged-decoded, judged-malformed}
 use Rattle.registry_answer.specs.Answers.{accepts, acceptIf, firstOf}
 use Rattle.registry_answer.proofs.AnswerLaws.{first-refused, first-accepted, first-last}
 use Rattle.registry_authentication.specs.Issuers.{anchored, authenticateIssuer}
 use Rattle.registry_backer.specs.Backers.{isBackerless, namesRegistry, resolvedBacker}
 use Rattle.registry_backer.proofs.AuthorityLaws.{asked-by}
-use Rattle.registry_error.specs.declared.error.Answer.{Answer}
-use Rattle.registry_error.specs.declared.error.Answer.the-variants.{Rejected}
-use Rattle.registry_error.specs.declared.error.RegistryRejection.the-variants.{Malformed, NotCredentialTransition, InconsistentRegistry, SimpleEventOnBackerRegistry, BackedEventOnBackerlessRegistry}
+use Rattle.registry_error.specs.declared.Answer.{Answer}
+use Rattle.registry_error.specs.declared.Answer.the-variants.{Rejected}
+use Rattle.registry_error.specs.declared.RegistryRejection.the-variants.{Malformed, NotCredentialTransition, InconsistentRegistry, SimpleEventOnBackerRegistry, BackedEventOnBackerlessRegistry}
 use Rattle.registry_credential_state.specs.CredentialFolds.{ingestAnswer, saidOf, ingestMessage, ingestDecoded, ingestIf}
 use Rattle.registry_credential_state.specs.CredentialParts.{revResolved, brvResolved, eventResolved, ingestResolved, revocationAnswer, revocationAt}
-use Rattle.registry_credential_state.specs.declared.credential_state.Revocation.{Revocation}
+use Rattle.registry_credential_state.specs.declared.Revocation.{Revocation}
 use Rattle.registry_credential_state.proofs.PartLaws.{ingest-parts}
 
 -- every kind has its digest in the same field

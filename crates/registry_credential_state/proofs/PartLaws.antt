@@ -7,18 +7,18 @@ use mathlib.Core.Path.{_≡_, refl, sym, ap, _∙_}
 use mathlib.Core.List.{List, [], _∷_}
 use mathlib.Core.Bool.{Bool, true, false, not}
 use Rattle.cesr.specs.Primitives.{saidAt, eqSaid}
-use Rattle.cesr.specs.declared.primitive.Said.{Said}
-use Rattle.cesr.specs.declared.primitive.BasicPrefix.{BasicPrefix}
+use Rattle.cesr.specs.declared.Said.{Said}
+use Rattle.cesr.specs.declared.BasicPrefix.{BasicPrefix}
 use Rattle.events_tel.specs.TelEvents.{eventAs, snOne}
-use Rattle.events_seal.specs.declared.seal.Seal.{Seal}
-use Rattle.events_tel.specs.declared.tel.Kind.{Kind}
-use Rattle.events_tel.specs.declared.tel.Kind.the-variants.{Vcp, Vrt, Iss, Rev, Bis, Brv}
-use Rattle.events_tel.specs.declared.tel.TelEvent.{TelEvent}
+use Rattle.events_seal.specs.declared.Seal.{Seal}
+use Rattle.events_tel.specs.declared.Kind.{Kind}
+use Rattle.events_tel.specs.declared.Kind.the-variants.{Vcp, Vrt, Iss, Rev, Bis, Brv}
+use Rattle.events_tel.specs.declared.TelEvent.{TelEvent}
 use Rattle.registry_state.specs.States.{Registry}
-use Rattle.registry_state_credential.specs.declared.state.CredentialState.{CredentialState}
+use Rattle.registry_state_credential.specs.declared.CredentialState.{CredentialState}
 use Rattle.registry_signatures.specs.SignatureSections.{signaturesIn}
 use Rattle.registry_wire.specs.Attempts.{Message, viewAttempt}
-use Rattle.registry_wire.specs.declared.attempt.Attempt.{Attempt}
+use Rattle.registry_wire.specs.declared.Attempt.{Attempt}
 use Rattle.registry_answer.specs.Answers.{accepts, acceptIf, orElse, firstOf}
 use Rattle.registry_answer.proofs.AnswerLaws.{or-passes, or-refuses, first-last}
 use Rattle.registry_transition.specs.Transitions.{transition}
@@ -27,12 +27,12 @@ use Rattle.registry_backing.specs.Backings.{ownWhere}
 use Rattle.registry_backer.specs.Backers.{isBackerless, namesRegistry, authenticateBacker, resolvedBacker, asksOwn}
 use Rattle.registry_backer.proofs.AuthorityLaws.{in-two-parts}
 use Rattle.registry_issue.proofs.OwnLaws.{in-parts, issuer-own}
-use Rattle.registry_error.specs.declared.error.Answer.{Answer}
-use Rattle.registry_error.specs.declared.error.Answer.the-variants.{Accepted, Rejected}
-use Rattle.registry_error.specs.declared.error.RegistryRejection.the-variants.{InconsistentRegistry, SimpleEventOnBackerRegistry, BackedEventOnBackerlessRegistry}
+use Rattle.registry_error.specs.declared.Answer.{Answer}
+use Rattle.registry_error.specs.declared.Answer.the-variants.{Accepted, Rejected}
+use Rattle.registry_error.specs.declared.RegistryRejection.the-variants.{InconsistentRegistry, SimpleEventOnBackerRegistry, BackedEventOnBackerlessRegistry}
 use Rattle.registry_credential_state.specs.CredentialFolds.{revAnswer, brvAnswer, ingestEvent, ingestAnswer}
 use Rattle.registry_credential_state.specs.CredentialParts.{revResolved, brvResolved, eventResolved, ingestResolved, revocationAnswer}
-use Rattle.registry_credential_state.specs.declared.credential_state.Revocation.{Revocation}
+use Rattle.registry_credential_state.specs.declared.Revocation.{Revocation}
 
 module _ (g : Registry) (w : CredentialState) (said credential prior : Said) (m : Message) where
   abbrev own : Answer

@@ -3,24 +3,24 @@ use Prim.Native.Nat.{ℕ}
 use mathlib.Core.List.{List}
 use mathlib.Core.Bool.{Bool, cond}
 use Rattle.cesr.specs.Primitives.{saidAt}
-use Rattle.cesr.specs.declared.primitive.Said.{Said}
-use Rattle.cesr.specs.declared.primitive.BasicPrefix.{BasicPrefix}
+use Rattle.cesr.specs.declared.Said.{Said}
+use Rattle.cesr.specs.declared.BasicPrefix.{BasicPrefix}
 use Rattle.events_tel.specs.TelEvents.{Event, snOne}
-use Rattle.events_seal.specs.declared.seal.Seal.{Seal}
+use Rattle.events_seal.specs.declared.Seal.{Seal}
 use Rattle.registry_state.specs.States.{Registry}
-use Rattle.registry_state_credential.specs.declared.state.CredentialState.{CredentialState}
+use Rattle.registry_state_credential.specs.declared.CredentialState.{CredentialState}
 use Rattle.registry_signatures.specs.SignatureSections.{signaturesIn}
 use Rattle.registry_wire.specs.Attempts.{Message}
-use Rattle.registry_error.specs.declared.error.RegistryRejection.the-variants.{Malformed, InconsistentRegistry}
-use Rattle.registry_error.specs.declared.error.Answer.{Answer}
-use Rattle.registry_error.specs.declared.error.Answer.the-variants.{Accepted}
+use Rattle.registry_error.specs.declared.RegistryRejection.the-variants.{Malformed, InconsistentRegistry}
+use Rattle.registry_error.specs.declared.Answer.{Answer}
+use Rattle.registry_error.specs.declared.Answer.the-variants.{Accepted}
 use Rattle.registry_answer.specs.Answers.{accepts, acceptIf, orElse}
 use Rattle.registry_backing.specs.Backings.{ownWhere}
 use Rattle.registry_backer.specs.Backers.{resolvedBacker}
 use Rattle.registry_transition.specs.Transitions.{transition}
 use Rattle.registry_issue.specs.IssueFolds.{Outcome}
 use Rattle.registry_credential_state.specs.CredentialFolds.{revChecks, brvChecks, eachTransition}
-use Rattle.registry_credential_state.specs.declared.credential_state.Revocation.{Revocation}
+use Rattle.registry_credential_state.specs.declared.Revocation.{Revocation}
 
 -- a rev, but for its place behind the held state
 unfoldable pub revResolved : Registry → Said → Said → Said → Message → Answer

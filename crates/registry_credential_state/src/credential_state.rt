@@ -1,31 +1,31 @@
 // The fold of a credential's next event, its revocation (docs/RULES.md, "Orders", "Next states").
-use cesr::primitive::Said;
-use cesr_sn::number::Sn;
-use events::member_set::Members;
-use events_seal::seal::Seal;
-use events_tel::tel::Kind;
-use events_toad::toad::Toad;
+use crate::Revocation;
+use cesr::Said;
+use cesr_sn::Sn;
+use events::Members;
+use events_seal::Seal;
+use events_tel::Kind;
+use events_toad::Toad;
 use registry_answer::answer::accepts;
 use registry_authentication::issuer::authenticate_issuer;
 use registry_authentication::issuer::message_anchored;
 use registry_backer::backer::authenticate_backer;
 use registry_backer::backer::names_registry;
 use registry_backing::backing::own_of;
-use registry_error::error::Answer;
-use registry_error::error::RegistryRejection;
-use registry_issue::credential_state::CredentialOutcome;
-use registry_management::management::Management;
-use registry_management::management::management_of;
-use registry_signatures::signatures::Counted;
-use registry_state::state::RegistryState;
-use registry_state_credential::state::CredentialState;
+use registry_error::Answer;
+use registry_error::RegistryRejection;
+use registry_issue::CredentialOutcome;
+use registry_management::Management;
+use registry_management::management_of;
+use registry_state::RegistryState;
+use registry_state_credential::CredentialState;
 use registry_transition::transition::transition;
-use registry_wire::attempt::Attempt;
+use registry_wire::Attempt;
 ghost use mathlib.Core.Path.{_≡_};
 ghost use mathlib.Core.Bool.{true};
 ghost use mathlib.Core.List.{List};
 ghost use Rattle.cesr.specs.Primitives.{saidAt, eqSaid};
-ghost use Rattle.cesr.specs.declared.primitive.BasicPrefix.{BasicPrefix};
+ghost use Rattle.cesr.specs.declared.BasicPrefix.{BasicPrefix};
 ghost use Rattle.events.specs.Members.{view};
 ghost use Rattle.registry_management.specs.Managements.{viewManagement};
 ghost use Rattle.registry_wire.specs.Attempts.{viewAttempt};
@@ -33,16 +33,6 @@ ghost use Rattle.registry_authentication.specs.Issuers.{Anchored};
 ghost use Rattle.registry_issue.specs.IssueFolds.{viewOutcome};
 ghost use Rattle.registry_credential_state.specs.CredentialFolds.{ingestIf, ingestOf};
 ghost use Rattle.registry_credential_state.specs.CredentialParts.{revResolved, brvResolved, ingestResolved, revocationAnswer, revocationAt};
-
-// An answer to a revocation, but for what its callers have: the list of the registry's own backers, and the held state. Beside it stands whether those backers are asked about, and where what is compared and kept stands in the attempt's bytes. The places mean something where the answer accepts.
-pub struct Revocation {
-    pub answer: Answer,
-    pub own: bool,
-    pub signatures: Counted,
-    pub credential: usize,
-    pub prior: usize,
-    pub said: usize,
-}
 
 // A rev's checks behind its kind. Each that refuses is returned, since an answer is copied wherever it is joined to another.
 fn rev_answer(g: Management, a: Attempt, s: &[u8]) -> Answer

@@ -3,11 +3,11 @@ use Prim.Native.Nat.{ℕ}
 use mathlib.Core.Bool.{cond}
 use lib.Dec.{ltb}
 use Rattle.cesr_sn.specs.Numbers.{value}
-use Rattle.cesr_sn.specs.declared.number.Sn.{Sn}
-use Rattle.registry_disposition.specs.declared.disposition.EvidenceKind.{EvidenceKind}
-use Rattle.registry_disposition.specs.declared.disposition.EvidenceKind.the-variants as E
-use Rattle.registry_disposition.specs.declared.disposition.Disposition.{Disposition}
-use Rattle.registry_disposition.specs.declared.disposition.Disposition.the-variants.{Terminal, Contested, Awaiting}
+use Rattle.cesr_sn.specs.declared.Sn.{Sn}
+use Rattle.registry_disposition.specs.declared.EvidenceKind.{EvidenceKind}
+use Rattle.registry_disposition.specs.declared.EvidenceKind.the-variants as E
+use Rattle.registry_disposition.specs.declared.Disposition.{Disposition}
+use Rattle.registry_disposition.specs.declared.Disposition.the-variants.{Terminal, Contested, Awaiting}
 
 -- a number that is too high waits for the events before it, one that is taken is contested
 unfoldable pub outOfOrder : Sn → Sn → Disposition

@@ -5,10 +5,10 @@ use mathlib.Core.Path.{_≡_, refl}
 use mathlib.Core.List.{List, [], _∷_}
 use types.Run.{OneOf, miss}
 use denote.Enum.Declared.{tagOf}
-use Rattle.registry_disposition.specs.declared.disposition.Disposition.the-variants.{Terminal}
-use Rattle.registry_error.proofs.error.RegistryRejection.{the-type}
-use Rattle.registry_error.specs.declared.error.RegistryRejection.{RegistryRejection}
-use Rattle.registry_error.specs.declared.error.RegistryRejection.the-variants as R
+use Rattle.registry_disposition.specs.declared.Disposition.the-variants.{Terminal}
+use Rattle.registry_error.proofs.RegistryRejection.{the-type}
+use Rattle.registry_error.specs.declared.RegistryRejection.{RegistryRejection}
+use Rattle.registry_error.specs.declared.RegistryRejection.the-variants as R
 use Rattle.registry_error.specs.Errors.{dispositionOf}
 
 abbrev terminal : List ℕ

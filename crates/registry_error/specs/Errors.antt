@@ -3,14 +3,14 @@ use Prim.Native.Nat.{ℕ}
 use mathlib.Core.List.{List, [], _∷_}
 use Rattle.cesr_sn.specs.Numbers.{value}
 use Rattle.events.specs.Members.{ruleOf}
-use Rattle.registry_error.specs.declared.error.RegistryRejection.{RegistryRejection}
-use Rattle.registry_error.specs.declared.error.RegistryRejection.the-variants as R
-use Rattle.registry_disposition.specs.declared.disposition.EvidenceKind.the-variants as E
-use Rattle.registry_disposition.specs.declared.disposition.Disposition.{Disposition}
-use Rattle.registry_disposition.specs.declared.disposition.Disposition.the-variants.{Terminal, Contested, Awaiting}
+use Rattle.registry_error.specs.declared.RegistryRejection.{RegistryRejection}
+use Rattle.registry_error.specs.declared.RegistryRejection.the-variants as R
+use Rattle.registry_disposition.specs.declared.EvidenceKind.the-variants as E
+use Rattle.registry_disposition.specs.declared.Disposition.{Disposition}
+use Rattle.registry_disposition.specs.declared.Disposition.the-variants.{Terminal, Contested, Awaiting}
 use Rattle.registry_disposition.specs.Dispositions.{outOfOrder, letterOf}
-use Rattle.registry_error.specs.declared.error.Answer.{Answer}
-use Rattle.registry_error.specs.declared.error.Answer.the-variants.{Accepted, Rejected}
+use Rattle.registry_error.specs.declared.Answer.{Answer}
+use Rattle.registry_error.specs.declared.Answer.the-variants.{Accepted, Rejected}
 
 -- the number of a refusal
 abbrev pub numberOf : RegistryRejection → ℕ

@@ -1,50 +1,10 @@
 // Why an attempt is turned down, and what its sender is to do (docs/RULES.md, "Refusals").
-use cesr_sn::number::Sn;
-use events::member_set::Rule;
-use registry_disposition::disposition::Disposition;
-use registry_disposition::disposition::EvidenceKind;
-use registry_disposition::disposition::out_of_order;
+use crate::RegistryRejection;
+use registry_disposition::Disposition;
+use registry_disposition::EvidenceKind;
+use registry_disposition::out_of_order;
 ghost use mathlib.Core.Path.{_≡_};
 ghost use Rattle.registry_error.specs.Errors.{numberOf, dispositionOf};
-
-// Each refusal of an attempt, with its details.
-pub enum RegistryRejection {
-    Malformed,
-    MissingRegistry,
-    DuplicateInception,
-    AlreadyIssued,
-    MissingCredentialState,
-    NotRegistryInception,
-    NotManagementRotation,
-    NotCredentialInception,
-    NotCredentialTransition,
-    InconsistentRegistry,
-    NoBackersWithBackers,
-    SimpleEventOnBackerRegistry,
-    BackedEventOnBackerlessRegistry,
-    RotationOnBackerlessRegistry,
-    SequenceNumberOverflow,
-    OutOfOrder { expected: Sn, actual: Sn },
-    PriorDigestMismatch,
-    MissingIssuer,
-    InconsistentIssuer,
-    MissingAnchor,
-    InconsistentAnchor,
-    InconsistentManagement,
-    UnresolvedAnchor { sn: Sn },
-    BackerSet { rule: Rule, at: usize },
-    TooManyBackers,
-    BackerThreshold,
-    MissingBackerReceipts { valid: usize, required: u32 },
-    InconsistentCredential,
-    NoRoom,
-    ShortBuffer,
-}
-
-pub enum Answer {
-    Accepted,
-    Rejected(RegistryRejection),
-}
 
 impl RegistryRejection {
     pub fn number(self) -> u8

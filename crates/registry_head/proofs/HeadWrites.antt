@@ -10,8 +10,8 @@ use lib.Seq.{sets, length-sets}
 use Rattle.laws.specs.Room.{put}
 use Rattle.laws.proofs.Number.{length-digits}
 use Rattle.laws.proofs.Room.{put-sets, sets-append}
-use Rattle.cesr_sn.specs.declared.number.Sn.{Sn}
-use Rattle.cesr.specs.declared.primitive.Matter.{Matter}
+use Rattle.cesr_sn.specs.declared.Sn.{Sn}
+use Rattle.cesr.specs.declared.Matter.{Matter}
 use Rattle.cesr_sn.specs.Numbers.{value, snBytes}
 use Rattle.cesr.specs.Primitives.{matterBytes}
 use Rattle.cesr.proofs.Matters.{length-matter}

@@ -1,7 +1,7 @@
 // The bytes of a credential state, which are also what a registry state begins with.
-use cesr::primitive::Matter;
+use cesr::Matter;
 use cesr_number::number::has_room;
-use cesr_sn::number::Sn;
+use cesr_sn::Sn;
 use cesr_write::matter::copy_matter;
 use cesr_write::matter::write_matter;
 ghost use mathlib.Core.Path.{_≡_};

@@ -17,10 +17,10 @@ use Rattle.laws.specs.Number.{Bytes}
 use Rattle.laws.proofs.Tests.{and-left}
 use Rattle.events_tel.specs.TelEvents.{Event, eventAs, viewEvent}
 use Rattle.events_tel.specs.TelEvents.Event.{vcp, vrt, iss, rev, bis, brv}
-use Rattle.events_tel.specs.declared.tel.Kind.{Kind}
-use Rattle.events_tel.specs.declared.tel.Kind.the-variants.{Vcp, Vrt, Iss, Rev, Bis, Brv}
-use Rattle.events_tel.specs.declared.tel.TelEvent.{TelEvent}
-use Rattle.events_tel.proofs.tel.Kind.{the-type}
+use Rattle.events_tel.specs.declared.Kind.{Kind}
+use Rattle.events_tel.specs.declared.Kind.the-variants.{Vcp, Vrt, Iss, Rev, Bis, Brv}
+use Rattle.events_tel.specs.declared.TelEvent.{TelEvent}
+use Rattle.events_tel.proofs.Kind.{the-type}
 use Rattle.codec.specs.Layout.{all, goodEvent}
 use Rattle.registry_state.specs.States.{Registry, noRegistry}
 use Rattle.registry_source.specs.Sources.{goodSource}
@@ -28,15 +28,15 @@ use Rattle.registry_wire.specs.Attempts.{Message, Decoded, goodAnchors, goodEvi
 use Rattle.registry_wire.specs.Attempts.Decoded.{malformed, decoded}
 use Rattle.registry_wire.proofs.CodesAttempt.{decodes}
 use Rattle.registry_signatures.specs.SignatureSections.{goodSignature}
-use Rattle.registry_wire.specs.declared.attempt.Attempt.{Attempt}
-use Rattle.registry_wire.specs.declared.attempt.DecodedAttempt.{DecodedAttempt}
+use Rattle.registry_wire.specs.declared.Attempt.{Attempt}
+use Rattle.registry_wire.specs.declared.DecodedAttempt.{DecodedAttempt}
 use Rattle.registry_answer.specs.Answers.{accepts, acceptIf, orElse}
-use Rattle.registry_error.specs.declared.error.Answer.{Answer}
-use Rattle.registry_error.specs.declared.error.Answer.the-variants.{Rejected}
-use Rattle.registry_error.specs.declared.error.RegistryRejection.the-variants.{Malformed, NotRegistryInception}
+use Rattle.registry_error.specs.declared.Answer.{Answer}
+use Rattle.registry_error.specs.declared.Answer.the-variants.{Rejected}
+use Rattle.registry_error.specs.declared.RegistryRejection.the-variants.{Malformed, NotRegistryInception}
 use Rattle.registry_authentication.specs.Issuers.{issuerKind}
 use Rattle.registry_inception.specs.InceptionFolds.{inceptEvent, inceptAnswer, incepted, inceptMessage, inceptDecoded, inceptOf, inceptedAt, inceptionAt}
-use Rattle.registry_inception.specs.declared.registry.Inception.{Inception}
+use Rattle.registry_inception.specs.declared.Inception.{Inception}
 use Rattle.registry_answer.proofs.AnswerLaws.{or-second, or-passes, or-refuses}
 use Rattle.registry_inception.proofs.WellLaws.{Lettered, good-incepted}
 

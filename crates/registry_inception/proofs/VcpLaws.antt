@@ -17,16 +17,16 @@ use Rattle.codec.proofs.Loops.{length-times}
 use Rattle.events.specs.Members.{checkMembers}
 use Rattle.events_tel.specs.Configs.{noBackers, viewConfigs}
 use Rattle.events_tel.specs.TelEvents.{snZero, membersIn}
-use Rattle.events_tel.specs.declared.config.Configs.{Configs}
-use Rattle.events_tel.specs.declared.tel.Listed.{Listed}
-use Rattle.events_toad.specs.declared.toad.Toad.{Toad}
+use Rattle.events_tel.specs.declared.Configs.{Configs}
+use Rattle.events_tel.specs.declared.Listed.{Listed}
+use Rattle.events_toad.specs.declared.Toad.{Toad}
 use Rattle.registry_wire.specs.Attempts.{anchorsIn, sourcesIn, evidenceOf, evidenceIn, viewAttempt}
-use Rattle.registry_wire.specs.declared.attempt.Attempt.{Attempt}
+use Rattle.registry_wire.specs.declared.Attempt.{Attempt}
 use Rattle.registry_signatures.specs.SignatureSections.{signaturesIn}
 use Rattle.registry_state.specs.States.{readRegistry}
-use Rattle.registry_error.specs.declared.error.RegistryRejection.the-variants.{NoBackersWithBackers, InconsistentIssuer}
-use Rattle.registry_error.specs.declared.error.Answer.{Answer}
-use Rattle.registry_error.specs.declared.error.Answer.the-variants.{Accepted, Rejected}
+use Rattle.registry_error.specs.declared.RegistryRejection.the-variants.{NoBackersWithBackers, InconsistentIssuer}
+use Rattle.registry_error.specs.declared.Answer.{Answer}
+use Rattle.registry_error.specs.declared.Answer.the-variants.{Accepted, Rejected}
 use Rattle.registry_answer.specs.Answers.{accepts, backerSet, orElse, firstOf}
 use Rattle.registry_answer.proofs.AnswerLaws.{first-passed, first-failed, first-passes, first-refuses, first-last, or-passes, or-refuses}
 use Rattle.registry_authentication.specs.Issuers.{namesIssuer, anchored}

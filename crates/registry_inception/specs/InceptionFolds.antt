@@ -4,9 +4,9 @@ use mathlib.Core.List.{List, [], _∷_}
 use mathlib.Core.Bool.{not, cond, _&&_}
 use lib.Dec.{eqb}
 use lib.ListN.{length}
-use Rattle.cesr.specs.declared.primitive.Matter.{Matter}
-use Rattle.cesr.specs.declared.primitive.Said.{Said}
-use Rattle.cesr.specs.declared.primitive.BasicPrefix.{BasicPrefix}
+use Rattle.cesr.specs.declared.Matter.{Matter}
+use Rattle.cesr.specs.declared.Said.{Said}
+use Rattle.cesr.specs.declared.BasicPrefix.{BasicPrefix}
 use Rattle.cesr.specs.Primitives.{readMatter, saidAt}
 use Rattle.events_tel.specs.Configs.{noBackers, viewConfigs}
 use Rattle.events.specs.Members.{checkMembers}
@@ -16,14 +16,14 @@ use Rattle.events_toad.specs.Toads.{exactOk}
 use Rattle.registry_state.specs.States.{Registry, viewRegistry, noRegistry}
 use Rattle.registry_wire.specs.Attempts.{Message, Decoded, decodeOf}
 use Rattle.registry_wire.specs.Attempts.Decoded.{malformed, decoded}
-use Rattle.registry_error.specs.declared.error.RegistryRejection.the-variants.{Malformed, NotRegistryInception, NoBackersWithBackers, InconsistentIssuer, BackerThreshold}
-use Rattle.registry_error.specs.declared.error.Answer.{Answer}
-use Rattle.registry_error.specs.declared.error.Answer.the-variants.{Rejected}
+use Rattle.registry_error.specs.declared.RegistryRejection.the-variants.{Malformed, NotRegistryInception, NoBackersWithBackers, InconsistentIssuer, BackerThreshold}
+use Rattle.registry_error.specs.declared.Answer.{Answer}
+use Rattle.registry_error.specs.declared.Answer.the-variants.{Rejected}
 use Rattle.registry_answer.specs.Answers.{accepts, acceptIf, backerSet, orElse, firstOf}
 use Rattle.registry_authentication.specs.Issuers.{issuerKind, namesIssuer, anchored}
 use Rattle.registry_backing.specs.Backings.{enoughReceipts}
-use Rattle.registry_inception.specs.declared.registry.RegistryOutcome.{RegistryOutcome}
-use Rattle.registry_inception.specs.declared.registry.Inception.{Inception}
+use Rattle.registry_inception.specs.declared.RegistryOutcome.{RegistryOutcome}
+use Rattle.registry_inception.specs.declared.Inception.{Inception}
 
 -- an answer, and the state behind it
 pub record Outcome : Type 0 where

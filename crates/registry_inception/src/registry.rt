@@ -1,24 +1,26 @@
 // The inception of a registry (docs/RULES.md, "Orders", "Next states").
-use cesr::primitive::Matter;
-use cesr::primitive::Said;
-use cesr_sn::number::Sn;
+use crate::Inception;
+use crate::RegistryOutcome;
+use cesr::Matter;
+use cesr::Said;
+use cesr_sn::Sn;
 use codec::section::at_most_16;
 use codec::section::members_in;
-use events_tel::config::Configs;
-use events_tel::tel::Kind;
-use events_tel::tel::Listed;
-use events_toad::toad::Toad;
+use events_tel::Configs;
+use events_tel::Kind;
+use events_tel::Listed;
+use events_toad::Toad;
 use registry_answer::answer::accept_if;
 use registry_answer::answer::accepts;
 use registry_answer::answer::backer_set;
 use registry_authentication::issuer::issuer_kind;
 use registry_authentication::issuer::message_anchored;
 use registry_backing::backing::enough_receipts;
-use registry_error::error::Answer;
-use registry_error::error::RegistryRejection;
+use registry_error::Answer;
+use registry_error::RegistryRejection;
 use registry_rotation::deltas::check_members;
-use registry_state::state::RegistryState;
-use registry_wire::attempt::Attempt;
+use registry_state::RegistryState;
+use registry_wire::Attempt;
 ghost use Prim.Native.Nat.{_≤_};
 ghost use mathlib.Core.Path.{_≡_};
 ghost use mathlib.Core.Bool.{true};
@@ -28,26 +30,10 @@ ghost use Rattle.events_tel.specs.TelEvents.{membersIn};
 ghost use Rattle.events_tel.specs.Configs.{viewConfigs};
 ghost use Rattle.registry_state.specs.States.{viewRegistry, wellRegistry};
 ghost use Rattle.registry_wire.specs.Attempts.{viewAttempt};
-ghost use Rattle.registry_error.specs.declared.error.RegistryRejection.the-variants.{Malformed};
+ghost use Rattle.registry_error.specs.declared.RegistryRejection.the-variants.{Malformed};
 ghost use Rattle.registry_answer.specs.Answers.{accepts, acceptIf, orElse, firstOf};
 ghost use Rattle.registry_authentication.specs.Issuers.{Anchored};
 ghost use Rattle.registry_inception.specs.InceptionFolds.{thresholdFits, vcpList, vcpAnswer, inceptAnswer, inceptedAt, inceptionAt, inceptOf, viewOutcome};
-
-// An answer, and the state behind it: the next one, or after a refusal the one that was handed in. Where none is handed in it is blank.
-pub struct RegistryOutcome {
-    pub answer: Answer,
-    pub state: RegistryState,
-}
-
-// An answer to an inception, and what its state is made of: values, and places in the attempt's bytes. They mean something where the answer accepts.
-pub struct Inception {
-    pub answer: Answer,
-    pub said: usize,
-    pub issuer: usize,
-    pub toad: Toad,
-    pub configs: Configs,
-    pub backers: Listed,
-}
 
 // Whether so many backers can meet the toad.
 pub fn threshold_fits(toad: Toad, backers: usize) -> Answer

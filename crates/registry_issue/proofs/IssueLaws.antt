@@ -15,10 +15,10 @@ use Rattle.laws.proofs.Tests.{and-left, and-right}
 use Rattle.registry_signatures.specs.SignatureSections.{signaturesIn}
 use Rattle.registry_state.specs.States.{Registry, readRegistry}
 use Rattle.registry_state_credential.specs.CredentialStates.{noCredential}
-use Rattle.registry_state_credential.specs.declared.state.CredentialState.{CredentialState}
+use Rattle.registry_state_credential.specs.declared.CredentialState.{CredentialState}
 use Rattle.registry_wire.specs.Attempts.{Message, viewAttempt, viewDecoded, decodeOf}
-use Rattle.registry_wire.specs.declared.attempt.Attempt.{Attempt}
-use Rattle.registry_wire.specs.declared.attempt.DecodedAttempt.{DecodedAttempt}
+use Rattle.registry_wire.specs.declared.Attempt.{Attempt}
+use Rattle.registry_wire.specs.declared.DecodedAttempt.{DecodedAttempt}
 use Rattle.registry_authentication.proofs.AnchorUse.{judged-decoded, judged-malformed}
 use Rattle.registry_answer.specs.Answers.{accepts, acceptIf, firstOf}
 use Rattle.registry_answer.proofs.AnswerLaws.{or-first, passed, or-passes, or-refuses, first-refused, first-accepted, first-last}
@@ -28,19 +28,19 @@ use Rattle.registry_backer.specs.Backers.{isBackerless, resolvedBacker}
 use Rattle.registry_backer.proofs.AuthorityLaws.{asked-by}
 use Rattle.cesr.specs.Primitives.{eqSaid, saidAt, readMatter}
 use Rattle.cesr.proofs.Matters.{said-eq}
-use Rattle.cesr.specs.declared.primitive.Said.{Said}
+use Rattle.cesr.specs.declared.Said.{Said}
 use Rattle.events_tel.specs.TelEvents.{snZero, eventAs, viewEvent}
-use Rattle.events_tel.specs.declared.tel.Kind.{Kind}
-use Rattle.events_tel.specs.declared.tel.Kind.the-variants.{Vcp, Vrt, Iss, Rev, Bis, Brv}
-use Rattle.events_tel.specs.declared.tel.TelEvent.{TelEvent}
-use Rattle.events_tel.proofs.tel.Kind.{the-type}
-use Rattle.events_seal.specs.declared.seal.Seal.{Seal}
-use Rattle.registry_error.specs.declared.error.Answer.{Answer}
-use Rattle.registry_error.specs.declared.error.Answer.the-variants.{Rejected}
-use Rattle.registry_error.specs.declared.error.RegistryRejection.the-variants.{Malformed, NotCredentialInception, InconsistentRegistry, SimpleEventOnBackerRegistry, BackedEventOnBackerlessRegistry}
+use Rattle.events_tel.specs.declared.Kind.{Kind}
+use Rattle.events_tel.specs.declared.Kind.the-variants.{Vcp, Vrt, Iss, Rev, Bis, Brv}
+use Rattle.events_tel.specs.declared.TelEvent.{TelEvent}
+use Rattle.events_tel.proofs.Kind.{the-type}
+use Rattle.events_seal.specs.declared.Seal.{Seal}
+use Rattle.registry_error.specs.declared.Answer.{Answer}
+use Rattle.registry_error.specs.declared.Answer.the-variants.{Rejected}
+use Rattle.registry_error.specs.declared.RegistryRejection.the-variants.{Malformed, NotCredentialInception, InconsistentRegistry, SimpleEventOnBackerRegistry, BackedEventOnBackerlessRegistry}
 use Rattle.registry_issue.specs.IssueFolds.{Outcome, issAnswer, bisAnswer, inceptEvent, issued, issueAnswer, issueAt, inceptMessage, inceptDecoded, inceptIf}
 use Rattle.registry_issue.specs.IssueParts.{bisResolved, eventResolved, inceptResolved}
-use Rattle.registry_issue.specs.declared.credential_state.Issue.{Issue}
+use Rattle.registry_issue.specs.declared.Issue.{Issue}
 use Rattle.registry_issue.proofs.OwnLaws.{incept-parts}
 
 module _ (g : Registry) (said credential registry : Said) (m : Message) where

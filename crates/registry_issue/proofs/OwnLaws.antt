@@ -7,20 +7,20 @@ use mathlib.Core.Path.{_≡_, refl, sym, ap, _∙_}
 use mathlib.Core.List.{List, [], _∷_, _++_}
 use mathlib.Core.Bool.{not}
 use Rattle.cesr.specs.Primitives.{eqSaid}
-use Rattle.cesr_sn.specs.declared.number.Sn.{Sn}
-use Rattle.cesr.specs.declared.primitive.Matter.{Matter}
-use Rattle.cesr.specs.declared.primitive.Said.{Said}
-use Rattle.cesr.specs.declared.primitive.BasicPrefix.{BasicPrefix}
+use Rattle.cesr_sn.specs.declared.Sn.{Sn}
+use Rattle.cesr.specs.declared.Matter.{Matter}
+use Rattle.cesr.specs.declared.Said.{Said}
+use Rattle.cesr.specs.declared.BasicPrefix.{BasicPrefix}
 use Rattle.events_tel.specs.TelEvents.{Event, snZero}
 use Rattle.events_tel.specs.TelEvents.Event.{vcp, vrt, iss, rev, bis, brv}
-use Rattle.events_seal.specs.declared.seal.Seal.{Seal}
+use Rattle.events_seal.specs.declared.Seal.{Seal}
 use Rattle.registry_state.specs.States.{Registry}
 use Rattle.registry_signatures.specs.SignatureSections.{Signature}
 use Rattle.registry_wire.specs.Attempts.{Message, Evidence}
 use Rattle.registry_wire.specs.Attempts.Evidence.{missing, issuer, backer, backerAt}
-use Rattle.registry_error.specs.declared.error.Answer.{Answer}
-use Rattle.registry_error.specs.declared.error.Answer.the-variants.{Accepted, Rejected}
-use Rattle.registry_error.specs.declared.error.RegistryRejection.the-variants.{InconsistentRegistry, SimpleEventOnBackerRegistry, BackedEventOnBackerlessRegistry}
+use Rattle.registry_error.specs.declared.Answer.{Answer}
+use Rattle.registry_error.specs.declared.Answer.the-variants.{Accepted, Rejected}
+use Rattle.registry_error.specs.declared.RegistryRejection.the-variants.{InconsistentRegistry, SimpleEventOnBackerRegistry, BackedEventOnBackerlessRegistry}
 use Rattle.registry_answer.specs.Answers.{acceptIf, orElse, firstOf}
 use Rattle.registry_answer.proofs.AnswerLaws.{first-last}
 use Rattle.registry_authentication.specs.Issuers.{issuerKind, anchored, authenticateIssuer}

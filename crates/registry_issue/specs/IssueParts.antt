@@ -1,12 +1,12 @@
 -- The answer to a credential's issue but for the registry's own backers, whose list the code leaves to its callers.
 use mathlib.Core.Bool.{Bool}
-use Rattle.cesr.specs.declared.primitive.Said.{Said}
+use Rattle.cesr.specs.declared.Said.{Said}
 use Rattle.events_tel.specs.TelEvents.{Event}
-use Rattle.events_seal.specs.declared.seal.Seal.{Seal}
+use Rattle.events_seal.specs.declared.Seal.{Seal}
 use Rattle.registry_state.specs.States.{Registry}
 use Rattle.registry_wire.specs.Attempts.{Message}
-use Rattle.registry_error.specs.declared.error.RegistryRejection.the-variants.{Malformed}
-use Rattle.registry_error.specs.declared.error.Answer.{Answer}
+use Rattle.registry_error.specs.declared.RegistryRejection.the-variants.{Malformed}
+use Rattle.registry_error.specs.declared.Answer.{Answer}
 use Rattle.registry_answer.specs.Answers.{acceptIf, orElse}
 use Rattle.registry_backer.specs.Backers.{resolvedBacker}
 use Rattle.registry_issue.specs.IssueFolds.{issAnswer, bisChecks, eachInception}

@@ -1,49 +1,33 @@
 // The fold of a credential's first event, its issue (docs/RULES.md, "Orders", "Next states").
-use cesr::primitive::Said;
-use cesr_sn::number::Sn;
-use events_seal::seal::Seal;
-use events_tel::tel::Kind;
+use crate::CredentialOutcome;
+use crate::Issue;
+use cesr::Said;
+use cesr_sn::Sn;
+use events_seal::Seal;
+use events_tel::Kind;
 use registry_answer::answer::accepts;
 use registry_authentication::issuer::authenticate_issuer;
 use registry_authentication::issuer::message_anchored;
 use registry_backer::backer::authenticate_backer;
 use registry_backing::backing::own_of;
-use registry_error::error::Answer;
-use registry_error::error::RegistryRejection;
-use registry_management::management::Management;
-use registry_management::management::management_of;
-use registry_signatures::signatures::Counted;
-use registry_state::state::RegistryState;
-use registry_state_credential::state::CredentialState;
-use registry_wire::attempt::Attempt;
+use registry_error::Answer;
+use registry_error::RegistryRejection;
+use registry_management::Management;
+use registry_management::management_of;
+use registry_state::RegistryState;
+use registry_state_credential::CredentialState;
+use registry_wire::Attempt;
 ghost use mathlib.Core.Path.{_≡_};
 ghost use mathlib.Core.Bool.{true};
 ghost use mathlib.Core.List.{List};
 ghost use Rattle.cesr.specs.Primitives.{saidAt};
-ghost use Rattle.cesr.specs.declared.primitive.BasicPrefix.{BasicPrefix};
+ghost use Rattle.cesr.specs.declared.BasicPrefix.{BasicPrefix};
 ghost use Rattle.registry_management.specs.Managements.{viewManagement};
 ghost use Rattle.registry_wire.specs.Attempts.{viewAttempt};
-ghost use Rattle.registry_error.specs.declared.error.Answer.the-variants.{Rejected};
+ghost use Rattle.registry_error.specs.declared.Answer.the-variants.{Rejected};
 ghost use Rattle.registry_authentication.specs.Issuers.{Anchored};
 ghost use Rattle.registry_issue.specs.IssueFolds.{issAnswer, issueAt, inceptIf, inceptOf, viewOutcome};
 ghost use Rattle.registry_issue.specs.IssueParts.{bisResolved, inceptResolved};
-
-// An answer, and the state behind it: the next one, or after a refusal the one that was handed in. Where none is handed in it is blank.
-pub struct CredentialOutcome {
-    pub answer: Answer,
-    pub state: CredentialState,
-}
-
-// An answer to an issue but for the registry's own backers, and where what its state is made of stands in the attempt's bytes. The places mean something where the answer accepts.
-pub struct Issue {
-    pub answer: Answer,
-    // Whether the registry's own backers are to be asked about.
-    pub own: bool,
-    pub signatures: Counted,
-    pub said: usize,
-    pub credential: usize,
-    pub registry: usize,
-}
 
 // An iss's checks behind its kind. Each that refuses is returned, since an answer is copied wherever it is joined to another.
 fn iss_answer(g: Management, a: Attempt, s: &[u8]) -> Answer

@@ -6,10 +6,10 @@ use mathlib.Core.Path.{_≡_, refl, ap}
 use mathlib.Core.List.{List, [], _∷_}
 use mathlib.Core.Bool.{true, false≢true}
 use Rattle.events.specs.Members.{orElse}
-use Rattle.events.specs.declared.member_set.Membership.{Membership}
-use Rattle.events.specs.declared.member_set.Membership.the-variants.{Sound, Broken}
+use Rattle.events.specs.declared.Membership.{Membership}
+use Rattle.events.specs.declared.Membership.the-variants.{Sound, Broken}
 use Rattle.registry_answer.specs.Answers.{accepts, backerSet, firstOf}
-use Rattle.registry_error.specs.declared.error.Answer.{Answer}
+use Rattle.registry_error.specs.declared.Answer.{Answer}
 use Rattle.registry_verification.specs.Starred.{All}
 use Rattle.registry_answer.proofs.AnswerLaws.{or-first, or-second}
 

@@ -7,9 +7,9 @@ use mathlib.Core.List.{List}
 use mathlib.Core.Bool.{Bool, true, false, not, _&&_, _||_, false≢true}
 use lib.Dec.{eqb}
 use lib.ListN.{length}
-use Rattle.cesr.specs.declared.primitive.Matter.{Matter}
-use Rattle.cesr.specs.declared.primitive.Said.{Said}
-use Rattle.cesr.specs.declared.primitive.BasicPrefix.{BasicPrefix}
+use Rattle.cesr.specs.declared.Matter.{Matter}
+use Rattle.cesr.specs.declared.Said.{Said}
+use Rattle.cesr.specs.declared.BasicPrefix.{BasicPrefix}
 use Rattle.events_tel.specs.Configs.{noBackers}
 use Rattle.events.specs.Members.{checkMembers}
 use Rattle.events_toad.specs.Toads.{exactOk}
@@ -19,8 +19,8 @@ use Rattle.registry_state.specs.States.{noRegistry}
 use Rattle.registry_wire.specs.Attempts.{Message, Decoded, decodeOf}
 use Rattle.registry_wire.specs.Attempts.Decoded.{malformed, decoded}
 use Rattle.registry_answer.specs.Answers.{accepts}
-use Rattle.registry_error.specs.declared.error.Answer.the-variants.{Rejected}
-use Rattle.registry_error.specs.declared.error.RegistryRejection.the-variants.{Malformed, NoBackersWithBackers, BackerThreshold}
+use Rattle.registry_error.specs.declared.Answer.the-variants.{Rejected}
+use Rattle.registry_error.specs.declared.RegistryRejection.the-variants.{Malformed, NoBackersWithBackers, BackerThreshold}
 use Rattle.registry_authentication.specs.Issuers.{issuerKind}
 use Rattle.registry_inception.specs.InceptionFolds.{Outcome, thresholdFits, vcpAnswer, inceptEvent, inceptAnswer, incepted, inceptMessage, inceptDecoded, inceptOf}
 use Rattle.registry_answer.proofs.AnswerLaws.{or-second, passed}

@@ -9,12 +9,12 @@ use borrow.Author.Tests.{eqb-true, eqb-false, ltb-true}
 use lib.Dec.{eqb, ltb}
 use Rattle.laws.proofs.Tests.{and-left, and-right}
 use Rattle.cesr_sn.specs.Numbers.{value}
-use Rattle.cesr_sn.specs.declared.number.Sn.{Sn}
+use Rattle.cesr_sn.specs.declared.Sn.{Sn}
 use Rattle.cesr_sn.proofs.Words.{value-words, value-fits}
 use Rattle.codec.specs.Layout.{goodSn}
 use Rattle.registry_answer.specs.Answers.{accepts, acceptIf}
-use Rattle.registry_error.specs.declared.error.Answer.the-variants.{Rejected}
-use Rattle.registry_error.specs.declared.error.RegistryRejection.the-variants.{SequenceNumberOverflow, OutOfOrder}
+use Rattle.registry_error.specs.declared.Answer.the-variants.{Rejected}
+use Rattle.registry_error.specs.declared.RegistryRejection.the-variants.{SequenceNumberOverflow, OutOfOrder}
 use Rattle.registry_verification.specs.Sequence.{snBehind, nextSn}
 use Rattle.registry_answer.proofs.AnswerLaws.{passed}
 

@@ -11,16 +11,16 @@ use native.Mathlib.Omega.{arith}
 use borrow.Author.Tests.{eqb-false}
 use lib.Dec.{eqb}
 use Rattle.events.specs.Members.{check, orElse as elseSet, Lists, subject, against, Offends}
-use Rattle.events.specs.declared.member_set.Rule.{Rule}
-use Rattle.events.specs.declared.member_set.Membership.{Membership}
-use Rattle.events.specs.declared.member_set.Membership.the-variants.{Sound, Broken}
-use Rattle.events.proofs.Members.{broken-rule, broken-below, broken-breaks}
+use Rattle.events.specs.declared.Rule.{Rule}
+use Rattle.events.specs.declared.Membership.{Membership}
+use Rattle.events.specs.declared.Membership.the-variants.{Sound, Broken}
+use Rattle.events.proofs.MemberLaws.{broken-rule, broken-below, broken-breaks}
 use Rattle.registry_answer.specs.Answers.{acceptIf, backerSet, orElse, firstOf}
 use Rattle.registry_error.specs.Errors.{numberOf, answerNumber}
-use Rattle.registry_error.specs.declared.error.Answer.{Answer}
-use Rattle.registry_error.specs.declared.error.Answer.the-variants.{Accepted, Rejected}
-use Rattle.registry_error.specs.declared.error.RegistryRejection.{RegistryRejection}
-use Rattle.registry_error.specs.declared.error.RegistryRejection.the-variants.{BackerSet}
+use Rattle.registry_error.specs.declared.Answer.{Answer}
+use Rattle.registry_error.specs.declared.Answer.the-variants.{Accepted, Rejected}
+use Rattle.registry_error.specs.declared.RegistryRejection.{RegistryRejection}
+use Rattle.registry_error.specs.declared.RegistryRejection.the-variants.{BackerSet}
 use Rattle.registry_verification.specs.Starred.{All}
 
 -- where an answer is refusal 24, the element at the position breaks the rule

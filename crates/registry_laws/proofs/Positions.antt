@@ -8,31 +8,31 @@ use mathlib.Core.List.{List, [], _∷_}
 use mathlib.Core.Bool.{_&&_}
 use lib.Dec.{eqb}
 use Rattle.cesr_sn.specs.Numbers.{value}
-use Rattle.cesr_sn.specs.declared.number.Sn.{Sn}
-use Rattle.cesr.specs.declared.primitive.Matter.{Matter}
-use Rattle.cesr.specs.declared.primitive.Said.{Said}
-use Rattle.cesr.specs.declared.primitive.BasicPrefix.{BasicPrefix}
+use Rattle.cesr_sn.specs.declared.Sn.{Sn}
+use Rattle.cesr.specs.declared.Matter.{Matter}
+use Rattle.cesr.specs.declared.Said.{Said}
+use Rattle.cesr.specs.declared.BasicPrefix.{BasicPrefix}
 use Rattle.events.specs.Members.{Lists, Offends, check, orElse as elseSet, checkMembers, checkDeltas, checkCurrent}
 use Rattle.events_tel.specs.TelEvents.{Event, snOne}
 use Rattle.events_tel.specs.TelEvents.Event.{vcp, vrt, iss, rev, bis, brv}
-use Rattle.events.specs.declared.member_set.Rule.{Rule}
-use Rattle.events.specs.declared.member_set.Rule.the-variants.{DuplicateBacker, DuplicateCut, DuplicateAddition, CutAddOverlap, RemovalNotCurrent, AdditionAlreadyPresent}
-use Rattle.events.specs.declared.member_set.Membership.the-variants.{Broken}
-use Rattle.events_seal.specs.declared.seal.Seal.{Seal}
-use Rattle.events_seal.specs.declared.seal.Seal.the-variants.{Digest, Root, Source as SourceSeal, Event as EventSeal, Last, Back, Kind, Opaque}
+use Rattle.events.specs.declared.Rule.{Rule}
+use Rattle.events.specs.declared.Rule.the-variants.{DuplicateBacker, DuplicateCut, DuplicateAddition, CutAddOverlap, RemovalNotCurrent, AdditionAlreadyPresent}
+use Rattle.events.specs.declared.Membership.the-variants.{Broken}
+use Rattle.events_seal.specs.declared.Seal.{Seal}
+use Rattle.events_seal.specs.declared.Seal.the-variants.{Digest, Root, Source as SourceSeal, Event as EventSeal, Last, Back, Kind, Opaque}
 use Rattle.registry_state.specs.States.{Registry, viewRegistry, wellRegistry}
 use Rattle.registry_state_credential.specs.CredentialStates.{wellCredential, noCredential}
-use Rattle.registry_state.specs.declared.state.RegistryState.{RegistryState}
-use Rattle.registry_state_credential.specs.declared.state.CredentialState.{CredentialState}
+use Rattle.registry_state.specs.declared.RegistryState.{RegistryState}
+use Rattle.registry_state_credential.specs.declared.CredentialState.{CredentialState}
 use Rattle.registry_wire.specs.Attempts.{Message, Anchor, Evidence, decodeOf}
 use Rattle.registry_signatures.specs.SignatureSections.{Signature}
 use Rattle.registry_wire.specs.Attempts.Decoded.{decoded}
 use Rattle.registry_wire.specs.Attempts.Evidence.{missing, issuer, backer, backerAt}
-use Rattle.registry_source.specs.declared.source.Source.{Source}
+use Rattle.registry_source.specs.declared.Source.{Source}
 use Rattle.registry_answer.specs.Answers.{acceptIf, backerSet}
-use Rattle.registry_error.specs.declared.error.Answer.{Answer}
-use Rattle.registry_error.specs.declared.error.Answer.the-variants.{Rejected}
-use Rattle.registry_error.specs.declared.error.RegistryRejection.the-variants.{Malformed, SequenceNumberOverflow, OutOfOrder, BackerSet}
+use Rattle.registry_error.specs.declared.Answer.{Answer}
+use Rattle.registry_error.specs.declared.Answer.the-variants.{Rejected}
+use Rattle.registry_error.specs.declared.RegistryRejection.the-variants.{Malformed, SequenceNumberOverflow, OutOfOrder, BackerSet}
 use Rattle.registry_authentication.specs.Issuers.{issuerKind, anchored, authenticateIssuer}
 use Rattle.registry_backing.specs.Backings.{enoughReceipts, backedBy}
 use Rattle.registry_backer.specs.Backers.{resolvedBy, resolved, authority, authenticateBacker}

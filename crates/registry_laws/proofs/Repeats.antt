@@ -9,13 +9,13 @@ use mathlib.Core.List.{List, [], _∷_, _++_}
 use native.Mathlib.Omega.{arith}
 use lib.ListN.{length, take}
 use lib.Seq.{length-take-le, getD-take}
-use Rattle.cesr.specs.declared.primitive.BasicPrefix.{BasicPrefix}
+use Rattle.cesr.specs.declared.BasicPrefix.{BasicPrefix}
 use Rattle.cesr.specs.Primitives.{eqPrefix}
 use Rattle.cesr.proofs.Matters.{eq-prefix}
 use Rattle.events.specs.Members.{noPrefix, at, has, breaks, check, orElse, checkMembers, checkDeltas, checkCurrent}
-use Rattle.events.specs.declared.member_set.Rule.the-variants.{DuplicateCut, DuplicateAddition, CutAddOverlap, RemovalNotCurrent, AdditionAlreadyPresent}
-use Rattle.events.specs.declared.member_set.Membership.the-variants.{Sound}
-use Rattle.events.proofs.Members.{has-found, has-none, sound-all, sound-apart, distinct-sound}
+use Rattle.events.specs.declared.Rule.the-variants.{DuplicateCut, DuplicateAddition, CutAddOverlap, RemovalNotCurrent, AdditionAlreadyPresent}
+use Rattle.events.specs.declared.Membership.the-variants.{Sound}
+use Rattle.events.proofs.MemberLaws.{has-found, has-none, sound-all, sound-apart, distinct-sound}
 use Rattle.registry_verification.specs.Starred.{All, Different}
 use Rattle.registry_members.specs.Updated.{survivors, updatedMembers}
 use Rattle.registry_laws.proofs.Chains.{else-first, else-second}

@@ -11,9 +11,9 @@ use lib.Dec.{eqb}
 use lib.ListN.{length}
 use Rattle.laws.proofs.Tests.{and-left}
 use Rattle.cesr_sn.specs.Numbers.{value}
-use Rattle.cesr_sn.specs.declared.number.Sn.{Sn}
-use Rattle.cesr.specs.declared.primitive.Said.{Said}
-use Rattle.cesr.specs.declared.primitive.BasicPrefix.{BasicPrefix}
+use Rattle.cesr_sn.specs.declared.Sn.{Sn}
+use Rattle.cesr.specs.declared.Said.{Said}
+use Rattle.cesr.specs.declared.BasicPrefix.{BasicPrefix}
 use Rattle.events_tel.specs.Configs.{noBackers}
 use Rattle.events.specs.Members.{checkMembers, checkDeltas, checkCurrent}
 use Rattle.events_toad.specs.Toads.{exactOk}
@@ -21,12 +21,12 @@ use Rattle.events_tel.specs.TelEvents.{Event}
 use Rattle.events_tel.specs.TelEvents.Event.{vcp, vrt, iss, rev, bis, brv}
 use Rattle.codec.specs.Layout.{goodSn}
 use Rattle.registry_state.specs.States.{Registry, viewRegistry, wellRegistry}
-use Rattle.registry_state.specs.declared.state.RegistryState.{RegistryState}
+use Rattle.registry_state.specs.declared.RegistryState.{RegistryState}
 use Rattle.registry_wire.specs.Attempts.{Message, Decoded, decodeOf}
 use Rattle.registry_wire.specs.Attempts.Decoded.{malformed, decoded}
 use Rattle.registry_answer.specs.Answers.{accepts, backerSet}
-use Rattle.registry_error.specs.declared.error.Answer.the-variants.{Rejected}
-use Rattle.registry_error.specs.declared.error.RegistryRejection.the-variants.{Malformed, RotationOnBackerlessRegistry, BackerThreshold}
+use Rattle.registry_error.specs.declared.Answer.the-variants.{Rejected}
+use Rattle.registry_error.specs.declared.RegistryRejection.the-variants.{Malformed, RotationOnBackerlessRegistry, BackerThreshold}
 use Rattle.registry_members.specs.Updated.{updatedMembers}
 use Rattle.registry_inception.specs.InceptionFolds.{Outcome, thresholdFits}
 use Rattle.registry.specs.RegistryFolds.{vrtBackers, vrtAnswer, ingestEvent, rotated, ingestMessage, ingestDecoded, ingestOf}

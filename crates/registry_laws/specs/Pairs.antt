@@ -1,14 +1,14 @@
 -- The pair that an event names (docs/RULES.md, "Ledger").
 use Prim.Native.Nat.{ℕ}
 use mathlib.Core.List.{List, [], _∷_}
-use Rattle.cesr.specs.declared.primitive.Said.{Said}
+use Rattle.cesr.specs.declared.Said.{Said}
 use Rattle.events_tel.specs.TelEvents.{Event}
 use Rattle.events_tel.specs.TelEvents.Event.{vcp, vrt, iss, rev, bis, brv}
-use Rattle.events_seal.specs.declared.identifier.Identifier.{Identifier}
-use Rattle.events_seal.specs.declared.identifier.Identifier.the-variants.{Basic, SelfAddressing}
-use Rattle.events_seal.specs.declared.seal.Seal.{Seal}
-use Rattle.events_seal.specs.declared.seal.Seal.the-variants.{Digest, Root, Source, Event as EventSeal, Last, Back, Kind, Opaque}
-use Rattle.registry_state_credential.specs.declared.state.CredentialState.{CredentialState}
+use Rattle.events_seal.specs.declared.Identifier.{Identifier}
+use Rattle.events_seal.specs.declared.Identifier.the-variants.{Basic, SelfAddressing}
+use Rattle.events_seal.specs.declared.Seal.{Seal}
+use Rattle.events_seal.specs.declared.Seal.the-variants.{Digest, Root, Source, Event as EventSeal, Last, Back, Kind, Opaque}
+use Rattle.registry_state_credential.specs.declared.CredentialState.{CredentialState}
 use Rattle.registry_wire.specs.Attempts.{Decoded, decodeOf}
 use Rattle.registry_wire.specs.Attempts.Decoded.{malformed, decoded}
 

@@ -1,6 +1,6 @@
 -- The lists in which the position of refusal 24 counts (docs/RULES.md, "Lists of backers").
 use mathlib.Core.List.{List, []}
-use Rattle.cesr.specs.declared.primitive.BasicPrefix.{BasicPrefix}
+use Rattle.cesr.specs.declared.BasicPrefix.{BasicPrefix}
 use Rattle.events.specs.Members.{Lists}
 use Rattle.events_tel.specs.TelEvents.{Event}
 use Rattle.events_tel.specs.TelEvents.Event.{vcp, vrt, iss, rev, bis, brv}

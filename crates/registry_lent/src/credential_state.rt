@@ -1,10 +1,10 @@
 // The fold of a credential whose state is lent: the state is taken apart and folded by value, and what may change of it is stored.
-use cesr::primitive::Said;
-use cesr_sn::number::Sn;
+use cesr::Said;
+use cesr_sn::Sn;
 use registry_credential_state::credential_state::ingest;
-use registry_error::error::Answer;
-use registry_state::state::RegistryState;
-use registry_state_credential::state::CredentialState;
+use registry_error::Answer;
+use registry_state::RegistryState;
+use registry_state_credential::CredentialState;
 ghost use mathlib.Core.Path.{_≡_};
 ghost use Rattle.registry_credential_state.specs.CredentialFolds.{ingestOf};
 ghost use Rattle.registry_lent.specs.Lent.{changesOf};

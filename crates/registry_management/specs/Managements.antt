@@ -1,13 +1,13 @@
 -- A registry's state without its list of backers.
 use Prim.Native.Nat.{ℕ}
 use mathlib.Core.List.{List}
-use Rattle.cesr.specs.declared.primitive.BasicPrefix.{BasicPrefix}
+use Rattle.cesr.specs.declared.BasicPrefix.{BasicPrefix}
 use Rattle.events_tel.specs.Configs.{viewConfigs}
 use Rattle.events_tel.specs.TelEvents.{membersIn}
 use Rattle.codec_cursor.specs.Readers.{Read}
 use Rattle.registry_state.specs.States.{Registry}
-use Rattle.registry_management.specs.declared.management.Management.{Management}
-use Rattle.registry_management.specs.declared.management.ManagementRead.{ManagementRead}
+use Rattle.registry_management.specs.declared.Management.{Management}
+use Rattle.registry_management.specs.declared.ManagementRead.{ManagementRead}
 
 -- the registry that it is with these backers
 abbrev pub viewManagement : Management → List BasicPrefix → Registry

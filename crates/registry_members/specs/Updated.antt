@@ -1,7 +1,7 @@
 -- The members after a rotation (docs/RULES.md, "Lists of backers").
 use mathlib.Core.List.{List, [], _∷_, _++_}
 use mathlib.Core.Bool.{cond}
-use Rattle.cesr.specs.declared.primitive.BasicPrefix.{BasicPrefix}
+use Rattle.cesr.specs.declared.BasicPrefix.{BasicPrefix}
 use Rattle.events.specs.Members.{has}
 
 -- those of the list that are not among the cuts, in their order

@@ -1,9 +1,10 @@
 // The members after a rotation (docs/RULES.md, "Lists of backers").
-use cesr::primitive::BasicPrefix;
-use cesr::primitive::Matter;
+use crate::Updated;
+use cesr::BasicPrefix;
+use cesr::Matter;
 use codec::section::at_most_16;
-use events::member_set::Members;
-use events_tel::tel::Listed;
+use events::Members;
+use events_tel::Listed;
 use registry_rotation::deltas::found_in;
 ghost use mathlib.Core.Path.{_≡_};
 ghost use mathlib.Core.Bool.{cond};
@@ -13,12 +14,6 @@ ghost use lib.Dec.{leb};
 ghost use Rattle.events.specs.Members.{view};
 ghost use Rattle.events_tel.specs.TelEvents.{membersIn};
 ghost use Rattle.registry_members.specs.Updated.{updatedMembers};
-
-// Whether the members fit a list of 16, and the list where they do.
-pub struct Updated {
-    pub ok: bool,
-    pub members: Members,
-}
 
 // Survivors in their order, then additions in theirs. Where there are more than 16 the current list comes back.
 // The two loops are in one function, since a list is copied at every call.

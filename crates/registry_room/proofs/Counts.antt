@@ -15,19 +15,19 @@ use native.Mathlib.Omega.{arith}
 use native.Mathlib.Numerals.{add-one}
 use native.Mathlib.Decide.{ℕ-discrete}
 use lib.ListN.{length, length-append}
-use Rattle.cesr.specs.declared.primitive.BasicPrefix.{BasicPrefix}
+use Rattle.cesr.specs.declared.BasicPrefix.{BasicPrefix}
 use Rattle.cesr.specs.Primitives.{readMatter}
 use Rattle.events.specs.Members.{has}
-use Rattle.events_tel.specs.declared.tel.Listed.{Listed}
+use Rattle.events_tel.specs.declared.Listed.{Listed}
 use Rattle.events_tel.specs.Configs.{viewConfigs}
 use Rattle.events_tel.specs.TelEvents.{membersIn}
-use Rattle.codec_cursor.specs.declared.cursor.Cursor.{Cursor}
+use Rattle.codec_cursor.specs.declared.Cursor.{Cursor}
 use Rattle.codec_cursor.specs.Readers.{Read, readPrefix, times}
 use Rattle.codec.proofs.Loops.{length-times}
 use Rattle.registry_bytes.proofs.StateWrites.{length-state}
 use Rattle.registry_members.specs.Updated.{survivors, updatedMembers}
 use Rattle.registry_members.proofs.Survivors.{survivors-snoc, survivors-fewer}
-use Rattle.registry_room.specs.declared.next.NextState.{NextState}
+use Rattle.registry_room.specs.declared.NextState.{NextState}
 use Rattle.registry_room.specs.NextStates.{nextMembers, nextBytes}
 
 module _ (cuts : List BasicPrefix) (s : List ℕ) (start : Cursor) where

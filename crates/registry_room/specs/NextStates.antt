@@ -2,12 +2,12 @@
 use Prim.Native.Nat.{ℕ}
 use mathlib.Core.List.{List}
 use Rattle.cesr.specs.Primitives.{readMatter}
-use Rattle.cesr.specs.declared.primitive.BasicPrefix.{BasicPrefix}
+use Rattle.cesr.specs.declared.BasicPrefix.{BasicPrefix}
 use Rattle.events_tel.specs.Configs.{viewConfigs}
 use Rattle.events_tel.specs.TelEvents.{membersIn}
 use Rattle.registry_bytes.specs.StateBytes.{stateBytes}
 use Rattle.registry_members.specs.Updated.{updatedMembers}
-use Rattle.registry_room.specs.declared.next.NextState.{NextState}
+use Rattle.registry_room.specs.declared.NextState.{NextState}
 
 -- its backers: a list of the held bytes without the cuts, then the additions, both of the attempt's bytes
 unfoldable pub nextMembers : List ℕ → List ℕ → NextState → List BasicPrefix

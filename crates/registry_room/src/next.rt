@@ -1,9 +1,7 @@
 // The next state of a registry, before it is written: what it is made of, and how many bytes it has.
-use cesr_sn::number::Sn;
+use crate::NextState;
 use codec::section::at_most_16;
-use events_tel::config::Configs;
-use events_tel::tel::Listed;
-use events_toad::toad::Toad;
+use events_tel::Listed;
 use registry_rotation::deltas::found_in;
 ghost use mathlib.Core.Path.{_≡_};
 ghost use lib.Dec.{leb};
@@ -11,23 +9,6 @@ ghost use lib.ListN.{length};
 ghost use Rattle.events_tel.specs.TelEvents.{membersIn};
 ghost use Rattle.registry_members.specs.Updated.{survivors};
 ghost use Rattle.registry_room.specs.NextStates.{nextBytes};
-
-// What a next state is made of: values, and places in two slices, the held bytes and the attempt's.
-pub struct NextState {
-    // Places in the held bytes.
-    pub id: usize,
-    pub issuer: usize,
-    pub sn: Sn,
-    // The place of the digest of the last event, in the attempt's bytes.
-    pub latest: usize,
-    pub toad: Toad,
-    pub configs: Configs,
-    // A list in the held bytes.
-    pub current: Listed,
-    // Lists in the attempt's bytes.
-    pub cuts: Listed,
-    pub additions: Listed,
-}
 
 // How many of a list in the held bytes are not cut.
 pub fn surviving(held: &[u8], current: Listed, s: &[u8], cuts: Listed) -> usize

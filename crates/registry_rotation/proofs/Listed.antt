@@ -13,15 +13,15 @@ use native.Mathlib.Numerals.{add-one}
 use native.Mathlib.Decide.{ℕ-discrete}
 use lib.ListN.{take, getD, List·getD-append}
 use lib.Seq.{take-all, take-append-le, getD-at}
-use Rattle.cesr.specs.declared.primitive.BasicPrefix.{BasicPrefix}
+use Rattle.cesr.specs.declared.BasicPrefix.{BasicPrefix}
 use Rattle.cesr.specs.Primitives.{readMatter, eqMatter}
-use Rattle.events.specs.declared.member_set.Rule.{Rule}
-use Rattle.events.specs.declared.member_set.Rule.the-variants.{DuplicateBacker, DuplicateCut, DuplicateAddition, CutAddOverlap, RemovalNotCurrent, AdditionAlreadyPresent}
+use Rattle.events.specs.declared.Rule.{Rule}
+use Rattle.events.specs.declared.Rule.the-variants.{DuplicateBacker, DuplicateCut, DuplicateAddition, CutAddOverlap, RemovalNotCurrent, AdditionAlreadyPresent}
 use Rattle.events.specs.Members.{at, noPrefix, has, breaks, isRepeat, isMissing}
-use Rattle.events.proofs.Members.{has-append}
-use Rattle.events_tel.specs.declared.tel.Listed.{Listed}
+use Rattle.events.proofs.MemberLaws.{has-append}
+use Rattle.events_tel.specs.declared.Listed.{Listed}
 use Rattle.events_tel.specs.TelEvents.{membersIn}
-use Rattle.codec_cursor.specs.declared.cursor.Cursor.{Cursor}
+use Rattle.codec_cursor.specs.declared.Cursor.{Cursor}
 use Rattle.codec.proofs.Loops.{length-times}
 use Rattle.codec_cursor.specs.Readers.{Read, Reader, readIf, readPrefix, times}
 

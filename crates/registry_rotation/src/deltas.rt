@@ -1,13 +1,13 @@
 // The rules on lists of backers, which stay in the bytes (docs/RULES.md, "Lists of backers").
-use cesr::primitive::BasicPrefix;
+use cesr::BasicPrefix;
 use codec::section::at_most_16;
-use codec_cursor::cursor::Cursor;
-use events::member_set::Membership;
-use events::member_set::Rule;
+use codec_cursor::Cursor;
+use events::Membership;
+use events::Rule;
 use events::member_set::differs;
 use events::member_set::or_else;
 use events::member_set::until;
-use events_tel::tel::Listed;
+use events_tel::Listed;
 ghost use mathlib.Core.Path.{_≡_};
 ghost use mathlib.Core.Bool.{true, cond};
 ghost use mathlib.Core.List.{[]};

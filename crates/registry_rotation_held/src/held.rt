@@ -1,11 +1,11 @@
 // The rules that hold a rotation's lists, which stay in the bytes, against current members by value (docs/RULES.md, "Lists of backers").
 use codec::section::at_most_16;
-use events::member_set::Members;
-use events::member_set::Membership;
-use events::member_set::Rule;
+use events::Members;
+use events::Membership;
+use events::Rule;
 use events::member_set::differs;
 use events::member_set::or_else;
-use events_tel::tel::Listed;
+use events_tel::Listed;
 ghost use mathlib.Core.Path.{_≡_};
 ghost use mathlib.Core.Bool.{false};
 ghost use Rattle.events.specs.Members.{view, isRepeat, isMissing, check, checkCurrent};

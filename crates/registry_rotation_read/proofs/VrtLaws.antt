@@ -14,23 +14,23 @@ use mathlib.Core.Bool.{Bool, true, false, not, false≢true}
 use lib.Dec.{leb}
 use lib.ListN.{length, length-append}
 use Rattle.cesr.specs.Primitives.{saidAt, eqSaid, eqMatter, readMatter}
-use Rattle.cesr.specs.declared.primitive.BasicPrefix.{BasicPrefix}
+use Rattle.cesr.specs.declared.BasicPrefix.{BasicPrefix}
 use Rattle.events.specs.Members.{checkDeltas, checkCurrent}
 use Rattle.events_tel.specs.TelEvents.{membersIn, viewEvent, eventAs}
-use Rattle.events_tel.specs.declared.tel.Kind.{Kind}
-use Rattle.events_tel.specs.declared.tel.Kind.the-variants.{Vcp, Vrt, Iss, Rev, Bis, Brv}
-use Rattle.events_tel.specs.declared.tel.TelEvent.{TelEvent}
-use Rattle.events_tel.specs.declared.tel.Listed.{Listed}
-use Rattle.events_toad.specs.declared.toad.Toad.{Toad}
+use Rattle.events_tel.specs.declared.Kind.{Kind}
+use Rattle.events_tel.specs.declared.Kind.the-variants.{Vcp, Vrt, Iss, Rev, Bis, Brv}
+use Rattle.events_tel.specs.declared.TelEvent.{TelEvent}
+use Rattle.events_tel.specs.declared.Listed.{Listed}
+use Rattle.events_toad.specs.declared.Toad.{Toad}
 use Rattle.registry_state.specs.States.{Registry}
 use Rattle.registry_wire.specs.Attempts.{Message, viewAttempt, viewDecoded, decodeOf}
-use Rattle.registry_wire.specs.declared.attempt.Attempt.{Attempt}
-use Rattle.registry_wire.specs.declared.attempt.DecodedAttempt.{DecodedAttempt}
+use Rattle.registry_wire.specs.declared.Attempt.{Attempt}
+use Rattle.registry_wire.specs.declared.DecodedAttempt.{DecodedAttempt}
 use Rattle.registry_signatures.specs.SignatureSections.{signaturesIn}
-use Rattle.registry_signatures.specs.declared.signatures.Counted.{Counted}
-use Rattle.registry_error.specs.declared.error.RegistryRejection.the-variants.{Malformed, InconsistentRegistry, RotationOnBackerlessRegistry, PriorDigestMismatch, TooManyBackers}
-use Rattle.registry_error.specs.declared.error.Answer.{Answer}
-use Rattle.registry_error.specs.declared.error.Answer.the-variants.{Rejected}
+use Rattle.registry_signatures.specs.declared.Counted.{Counted}
+use Rattle.registry_error.specs.declared.RegistryRejection.the-variants.{Malformed, InconsistentRegistry, RotationOnBackerlessRegistry, PriorDigestMismatch, TooManyBackers}
+use Rattle.registry_error.specs.declared.Answer.{Answer}
+use Rattle.registry_error.specs.declared.Answer.the-variants.{Rejected}
 use Rattle.registry_answer.specs.Answers.{accepts, acceptIf, backerSet, orElse, firstOf}
 use Rattle.registry_answer.proofs.AnswerLaws.{first-passed, first-failed}
 use Rattle.registry_verification.specs.Sequence.{nextSn}
@@ -42,7 +42,7 @@ use Rattle.registry_backer.specs.Backers.{isBackerless}
 use Rattle.registry_inception.specs.InceptionFolds.{thresholdFits}
 use Rattle.registry.specs.RegistryFolds.{vrtBackers, vrtAnswer, ingestEvent, rotated, ingestMessage, ingestDecoded}
 use Rattle.registry_rotation_read.specs.Rotations.{rotatedAt, rotationAt}
-use Rattle.registry_rotation_read.specs.declared.rotation.RotationRead.{RotationRead}
+use Rattle.registry_rotation_read.specs.declared.RotationRead.{RotationRead}
 
 -- the lists of a vrt, and the members after it
 module _ (now : List BasicPrefix) (s : List ℕ) (cuts additions : Listed) (toad : Toad) (signatures : Counted) where

@@ -8,7 +8,7 @@ use Rattle.registry_state.specs.States.{Registry}
 use Rattle.registry_answer.specs.Answers.{accepts}
 use Rattle.registry_members.specs.Updated.{updatedMembers}
 use Rattle.registry_inception.specs.InceptionFolds.{Outcome}
-use Rattle.registry_rotation_read.specs.declared.rotation.RotationRead.{RotationRead}
+use Rattle.registry_rotation_read.specs.declared.RotationRead.{RotationRead}
 
 -- the state that a rotation leaves of a registry, over the bytes that it was read from
 unfoldable pub rotatedAt : Registry → List ℕ → RotationRead → Registry

@@ -1,24 +1,24 @@
 // The rotation of a registry whose state stays in its bytes, as the attempt does (docs/RULES.md, "Orders", "Next states"). The first check that refuses is returned at once, since an answer is copied by every check behind it.
-use cesr::primitive::Said;
-use cesr_sn::number::Sn;
+use crate::RotationRead;
+use cesr::Said;
 use codec::section::at_most_16;
-use events_tel::tel::Kind;
-use events_tel::tel::Listed;
-use events_toad::toad::Toad;
+use events_tel::Kind;
+use events_tel::Listed;
+use events_toad::Toad;
 use registry_answer::answer::accepts;
 use registry_answer::answer::backer_set;
 use registry_authentication::issuer::authenticate_issuer;
 use registry_backing::backing::enough_receipts;
-use registry_error::error::Answer;
-use registry_error::error::RegistryRejection;
+use registry_error::Answer;
+use registry_error::RegistryRejection;
 use registry_inception::registry::threshold_fits;
-use registry_management::management::Management;
+use registry_management::Management;
 use registry_room::next::surviving;
 use registry_rotation::deltas::check_current_in;
 use registry_rotation::deltas::check_deltas;
-use registry_signatures::signatures::Counted;
+use registry_signatures::Counted;
 use registry_verification::sequence::next_sn;
-use registry_wire::attempt::Attempt;
+use registry_wire::Attempt;
 ghost use mathlib.Core.Path.{_≡_};
 ghost use mathlib.Core.Bool.{true};
 ghost use Rattle.cesr.specs.Primitives.{saidAt};
@@ -26,21 +26,11 @@ ghost use Rattle.events_tel.specs.TelEvents.{membersIn, viewEvent};
 ghost use Rattle.registry_wire.specs.Attempts.{viewAttempt, decodeOf};
 ghost use Rattle.registry_signatures.specs.SignatureSections.{signaturesIn};
 ghost use Rattle.registry_management.specs.Managements.{viewManagement};
-ghost use Rattle.registry_error.specs.declared.error.RegistryRejection.the-variants.{Malformed};
+ghost use Rattle.registry_error.specs.declared.RegistryRejection.the-variants.{Malformed};
 ghost use Rattle.registry_answer.specs.Answers.{acceptIf, orElse};
 ghost use Rattle.registry_authentication.specs.Issuers.{Anchored};
 ghost use Rattle.registry.specs.RegistryFolds.{vrtBackers, vrtAnswer, ingestEvent, ingestDecoded};
 ghost use Rattle.registry_rotation_read.specs.Rotations.{rotationAt};
-
-// An answer to a rotation, and what it changes of the state: values, and places in the attempt's bytes. They mean something where the answer accepts.
-pub struct RotationRead {
-    pub answer: Answer,
-    pub sn: Sn,
-    pub latest: usize,
-    pub toad: Toad,
-    pub cuts: Listed,
-    pub additions: Listed,
-}
 
 // The last five checks of a vrt: its lists, and the members after it.
 fn members_answer(

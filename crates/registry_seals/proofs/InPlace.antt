@@ -8,13 +8,13 @@ use lib.Dec.{eqb}
 use lib.ListN.{length}
 use Rattle.cesr_sn.specs.Numbers.{value, readSn}
 use Rattle.cesr.specs.Primitives.{readMatter, eqMatter}
-use Rattle.cesr_sn.specs.declared.number.Sn.{Sn}
-use Rattle.cesr.specs.declared.primitive.Matter.{Matter}
-use Rattle.cesr.specs.declared.primitive.Said.{Said}
-use Rattle.events_seal.specs.declared.seal.Seal.{Seal}
-use Rattle.events_seal.specs.declared.seal.Seal.the-variants.{Digest, Root, Source as SourceSeal, Last, Back, Kind, Opaque}
+use Rattle.cesr_sn.specs.declared.Sn.{Sn}
+use Rattle.cesr.specs.declared.Matter.{Matter}
+use Rattle.cesr.specs.declared.Said.{Said}
+use Rattle.events_seal.specs.declared.Seal.{Seal}
+use Rattle.events_seal.specs.declared.Seal.the-variants.{Digest, Root, Source as SourceSeal, Last, Back, Kind, Opaque}
 use Rattle.events_seal.proofs.Identifiers.{matter-identifier}
-use Rattle.codec_cursor.specs.declared.cursor.Cursor.{Cursor}
+use Rattle.codec_cursor.specs.declared.Cursor.{Cursor}
 use Rattle.codec_cursor.specs.Readers.{advanced, readByte, readIf, readIdentifier, readNumber, readSaid}
 use Rattle.codec.specs.Events.{sealOf, readEventSeal, readOtherSeal, readSeal}
 use Rattle.registry_seals.specs.SealSections.{sealsEvent}

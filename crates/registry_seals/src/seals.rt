@@ -1,8 +1,8 @@
 // The anchoring event that is used, and its seals, out of lent bytes (docs/RULES.md, "Anchoring events").
-use cesr::primitive::Matter;
-use cesr::primitive::Said;
-use cesr_sn::number::Sn;
-use codec_cursor::cursor::Cursor;
+use cesr::Matter;
+use cesr::Said;
+use cesr_sn::Sn;
+use codec_cursor::Cursor;
 ghost use mathlib.Core.Path.{_≡_};
 ghost use Rattle.registry_seals.specs.SealSections.{chosen, sealSection, chosenSeals, anchorSeals};
 

@@ -4,11 +4,11 @@ use mathlib.Core.List.{List, [], _∷_, _++_}
 use mathlib.Core.Bool.{Bool, _&&_}
 use lib.Dec.{leb, ltb}
 use Rattle.laws.specs.Number.{digits}
-use Rattle.codec_cursor.specs.declared.cursor.Cursor.{Cursor}
+use Rattle.codec_cursor.specs.declared.Cursor.{Cursor}
 use Rattle.codec_cursor.specs.Readers.{Read, Reader, placed, readByteIf, readQuad, mapped, both, times, countUpTo, section}
-use Rattle.registry_signatures.specs.declared.signatures.Counted.{Counted}
-use Rattle.registry_signatures.specs.declared.signatures.SignatureRead.{SignatureRead}
-use Rattle.registry_signatures.specs.declared.signatures.SignaturesRead.{SignaturesRead}
+use Rattle.registry_signatures.specs.declared.Counted.{Counted}
+use Rattle.registry_signatures.specs.declared.SignatureRead.{SignatureRead}
+use Rattle.registry_signatures.specs.declared.SignaturesRead.{SignaturesRead}
 
 -- a signature's index, and its verdict: 0 failed, 1 good
 pub record Signature : Type 0 where

@@ -1,26 +1,11 @@
 // The signatures of an attempt, section 9 (docs/RULES.md, "Bytes").
+use crate::Counted;
+use crate::SignatureRead;
+use crate::SignaturesRead;
 use codec::section::count_up_to;
-use codec_cursor::cursor::Cursor;
+use codec_cursor::Cursor;
 ghost use mathlib.Core.Path.{_≡_};
 ghost use Rattle.registry_signatures.specs.SignatureSections.{viewSignature, readSignature, passedSignatures};
-
-// Elements in the attempt's bytes, one behind the other.
-pub struct Counted {
-    pub from: usize,
-    pub count: usize,
-}
-
-// A backer's index, and the caller's verdict on its signature: 0 failed, 1 good.
-pub struct SignatureRead {
-    pub index: u32,
-    pub verdict: u8,
-    pub next: Cursor,
-}
-
-pub struct SignaturesRead {
-    pub value: Counted,
-    pub next: Cursor,
-}
 
 pub fn read_signature(c: Cursor, s: &[u8]) -> SignatureRead
     ensures { λ r. ⌜ viewSignature r ≡ readSignature (now (s .entry)) c ⌝ }

@@ -4,12 +4,12 @@ use mathlib.Core.List.{List, [], _∷_, _++_}
 use mathlib.Core.Bool.{Bool, cond, _&&_}
 use lib.Dec.{eqb}
 use Rattle.cesr_sn.specs.Numbers.{snBytes}
-use Rattle.cesr_sn.specs.declared.number.Sn.{Sn}
-use Rattle.cesr.specs.declared.primitive.Said.{Said}
+use Rattle.cesr_sn.specs.declared.Sn.{Sn}
+use Rattle.cesr.specs.declared.Said.{Said}
 use Rattle.codec_cursor.specs.Readers.{Read, Reader, readNumber, readSaid, mapped, both}
 use Rattle.codec.specs.Layout.{saidBytes, goodSaid, goodSn}
-use Rattle.registry_source.specs.declared.source.Source.{Source}
-use Rattle.registry_source.specs.declared.source.SourcesRead.{SourcesRead}
+use Rattle.registry_source.specs.declared.Source.{Source}
+use Rattle.registry_source.specs.declared.SourcesRead.{SourcesRead}
 
 abbrev pub sourceBytes : Source → List ℕ
 sourceBytes x = snBytes (x .sn) ++ saidBytes (x .said)

@@ -6,17 +6,17 @@ use lib.Dec.{leb, eqb}
 use Rattle.laws.specs.Number.{digits}
 use Rattle.cesr_sn.specs.Numbers.{snBytes}
 use Rattle.cesr.specs.Primitives.{none, matterBytes, isBasic, isSaid}
-use Rattle.cesr_sn.specs.declared.number.Sn.{Sn}
-use Rattle.cesr.specs.declared.primitive.Matter.{Matter}
-use Rattle.cesr.specs.declared.primitive.Said.{Said}
-use Rattle.cesr.specs.declared.primitive.BasicPrefix.{BasicPrefix}
+use Rattle.cesr_sn.specs.declared.Sn.{Sn}
+use Rattle.cesr.specs.declared.Matter.{Matter}
+use Rattle.cesr.specs.declared.Said.{Said}
+use Rattle.cesr.specs.declared.BasicPrefix.{BasicPrefix}
 use Rattle.events_tel.specs.Configs.{viewConfigs}
 use Rattle.events.specs.Members.{view}
 use Rattle.codec_cursor.specs.Readers.{Read, Reader, isIdentifier, readNumber, readQuad, readIdentifier, readSaid, mapped, both}
 use Rattle.codec.specs.Events.{isConfig, readConfigs, readPrefixes}
 use Rattle.codec.specs.Layout.{sectionBytes, all, saidBytes, prefixBytes, byteBytes, isMatter, goodSaid, goodIdentifier, goodSn, goodToad, goodConfigs, goodPrefixes}
-use Rattle.registry_state.specs.declared.state.RegistryState.{RegistryState}
-use Rattle.registry_state.specs.declared.state.RegistryRead.{RegistryRead}
+use Rattle.registry_state.specs.declared.RegistryState.{RegistryState}
+use Rattle.registry_state.specs.declared.RegistryRead.{RegistryRead}
 
 -- a registry as the rules see it: its config bytes and backers are lists
 pub record Registry : Type 0 where

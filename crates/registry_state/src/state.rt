@@ -1,14 +1,16 @@
 // The state of a registry. It holds numbers alone, since a host lends it as memory and every pattern of bits has to be a value.
-use cesr::primitive::Matter;
-use cesr::primitive::Said;
-use cesr_sn::number::Sn;
+use crate::RegistryRead;
+use crate::RegistryState;
+use cesr::Matter;
+use cesr::Said;
+use cesr_sn::Sn;
 use codec::section::pass_prefixes;
 use codec::section::read_configs;
 use codec::section::read_prefixes;
-use codec_cursor::cursor::Cursor;
-use events::member_set::Members;
-use events_tel::config::Configs;
-use events_toad::toad::Toad;
+use codec_cursor::Cursor;
+use events::Members;
+use events_tel::Configs;
+use events_toad::Toad;
 use registry_bytes::writer::state_size;
 use registry_bytes::writer::write_registry;
 ghost use mathlib.Core.Path.{_≡_};
@@ -21,24 +23,6 @@ ghost use Rattle.events.specs.Members.{view};
 ghost use Rattle.codec.specs.Events.{isConfig};
 ghost use Rattle.codec.specs.Layout.{all};
 ghost use Rattle.registry_state.specs.States.{viewRegistry, registryBytes, readRegistry, viewRegistryRead, noRegistry, isBacker, wellRegistry};
-
-#[repr(C)]
-pub struct RegistryState {
-    pub id: Said,
-    // An identifier.
-    pub issuer: Matter,
-    pub sn: Sn,
-    // The digest of the last event.
-    pub latest: Said,
-    pub toad: Toad,
-    pub configs: Configs,
-    pub backers: Members,
-}
-
-pub struct RegistryRead {
-    pub value: RegistryState,
-    pub next: Cursor,
-}
 
 impl RegistryState {
     // What stands where there is no registry.

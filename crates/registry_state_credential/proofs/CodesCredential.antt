@@ -14,8 +14,8 @@ use Rattle.laws.specs.Number.{Bytes}
 use Rattle.laws.specs.Room.{put}
 use Rattle.laws.proofs.Tests.{and-left, and-right}
 use Rattle.cesr.specs.Primitives.{isSaid}
-use Rattle.cesr.specs.declared.primitive.Said.{Said}
-use Rattle.cesr_sn.specs.declared.number.Sn.{Sn}
+use Rattle.cesr.specs.declared.Said.{Said}
+use Rattle.cesr_sn.specs.declared.Sn.{Sn}
 use Rattle.codec_cursor.specs.Readers.{placed}
 use Rattle.codec.specs.Layout.{isMatter, goodSaid, goodSn}
 use Rattle.codec_laws.proofs.CodesRound.{codes-back, codes-again}
@@ -23,7 +23,7 @@ use Rattle.codec_laws.proofs.Codes.{Codes, and-true, codes-map, codes-both, cod
 use Rattle.registry_head.specs.HeadBytes.{headBytes}
 use Rattle.registry_head.proofs.HeadWrites.{length-head}
 use Rattle.registry_state_credential.specs.CredentialStates.{credentialBytes, goodCredential, credentialOf, readCredential, wellCredential, rangedCredential}
-use Rattle.registry_state_credential.specs.declared.state.CredentialState.{CredentialState}
+use Rattle.registry_state_credential.specs.declared.CredentialState.{CredentialState}
 
 credentialParts : CredentialState → Said × (Said × (Sn × Said))
 credentialParts w = (w .registry, (w .credential, (w .sn, w .head)))

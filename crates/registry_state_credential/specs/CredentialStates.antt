@@ -3,14 +3,14 @@ use Prim.Native.Nat.{ℕ}
 use mathlib.Core.List.{List, _++_}
 use mathlib.Core.Bool.{Bool, _&&_}
 use Rattle.cesr.specs.Primitives.{none, isSaid, saidAt}
-use Rattle.cesr.specs.declared.primitive.Said.{Said}
+use Rattle.cesr.specs.declared.Said.{Said}
 use Rattle.cesr_sn.specs.Numbers.{snBytes}
-use Rattle.cesr_sn.specs.declared.number.Sn.{Sn}
+use Rattle.cesr_sn.specs.declared.Sn.{Sn}
 use Rattle.codec_cursor.specs.Readers.{Read, Reader, readNumber, readSaid, mapped, both}
 use Rattle.codec.specs.Layout.{saidBytes, isMatter, goodSaid, goodSn}
-use Rattle.registry_state_credential.specs.declared.state.CredentialState.{CredentialState}
-use Rattle.registry_state_credential.specs.declared.state.CredentialRead.{CredentialRead}
-use Rattle.registry_state_credential.specs.declared.state.CredentialAt.{CredentialAt}
+use Rattle.registry_state_credential.specs.declared.CredentialState.{CredentialState}
+use Rattle.registry_state_credential.specs.declared.CredentialRead.{CredentialRead}
+use Rattle.registry_state_credential.specs.declared.CredentialAt.{CredentialAt}
 
 -- a credential state: registry, credential, sn, head
 unfoldable pub credentialBytes : CredentialState → List ℕ

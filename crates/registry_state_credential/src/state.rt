@@ -1,35 +1,15 @@
 // The state of a credential. It holds numbers alone, since a host lends it as memory and every pattern of bits has to be a value.
-use cesr::primitive::Matter;
-use cesr::primitive::Said;
-use cesr_sn::number::Sn;
-use codec_cursor::cursor::Cursor;
+use crate::CredentialAt;
+use crate::CredentialRead;
+use crate::CredentialState;
+use cesr::Matter;
+use cesr::Said;
+use cesr_sn::Sn;
+use codec_cursor::Cursor;
 use registry_head::head::write_credential;
 ghost use mathlib.Core.Path.{_≡_};
 ghost use Rattle.laws.specs.Room.{room, put};
 ghost use Rattle.registry_state_credential.specs.CredentialStates.{credentialBytes, readCredential, viewCredentialRead, viewCredentialAt, noCredential, wellCredential};
-
-#[repr(C)]
-pub struct CredentialState {
-    pub registry: Said,
-    pub credential: Said,
-    pub sn: Sn,
-    // The digest of the last event.
-    pub head: Said,
-}
-
-pub struct CredentialRead {
-    pub value: CredentialState,
-    pub next: Cursor,
-}
-
-// A state that stays in its bytes: where its digests stand, and its sn.
-pub struct CredentialAt {
-    pub registry: usize,
-    pub credential: usize,
-    pub sn: Sn,
-    pub head: usize,
-    pub next: Cursor,
-}
 
 impl CredentialState {
     // What stands where there is no credential.

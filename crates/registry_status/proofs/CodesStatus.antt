@@ -11,9 +11,9 @@ use lib.Dec.{eqb, lit<}
 use lib.ListN.{length}
 use Rattle.laws.specs.Number.{Bytes}
 use Rattle.cesr.specs.Primitives.{matterBytes}
-use Rattle.cesr.specs.declared.primitive.Matter.{Matter}
-use Rattle.cesr.specs.declared.primitive.Said.{Said}
-use Rattle.codec_cursor.specs.declared.cursor.Cursor.{Cursor}
+use Rattle.cesr.specs.declared.Matter.{Matter}
+use Rattle.cesr.specs.declared.Said.{Said}
+use Rattle.codec_cursor.specs.declared.Cursor.{Cursor}
 use Rattle.codec_cursor.specs.Readers.{placed, starting, mapped, readByte, readSaid, readIdentifier}
 use Rattle.codec.specs.Layout.{saidBytes, goodIdentifier}
 use Rattle.codec_laws.proofs.Stands.{Stands, stays}
@@ -26,7 +26,7 @@ use Rattle.registry_state_credential.specs.CredentialStates.{credentialBytes, g
 use Rattle.registry_status.specs.Statuses.{Reference, Status, referenceBytes, statusBytes, goodReference, goodOptional, goodStatus, readReference, readRegistries, readCredentials, readIssuers, statusOf, readStatus, decodeStatus}
 use Rattle.registry_status.specs.Statuses.Reference.{unnamed, named, block}
 use Rattle.registry_status.specs.Statuses.StatusAnswer.{malformed, decoded}
-use Rattle.registry_state_credential.specs.declared.state.CredentialState.{CredentialState}
+use Rattle.registry_state_credential.specs.declared.CredentialState.{CredentialState}
 use Rattle.registry_state.proofs.CodesState.{codes-registry}
 use Rattle.registry_state_credential.proofs.CodesCredential.{codes-credential}
 

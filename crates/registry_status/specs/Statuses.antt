@@ -5,13 +5,13 @@ use mathlib.Core.Bool.{Bool, true, cond, _&&_, _||_}
 use lib.Dec.{leb, eqb}
 use lib.ListN.{length}
 use Rattle.cesr.specs.Primitives.{matterBytes}
-use Rattle.cesr.specs.declared.primitive.Matter.{Matter}
-use Rattle.cesr.specs.declared.primitive.Said.{Said}
+use Rattle.cesr.specs.declared.Matter.{Matter}
+use Rattle.cesr.specs.declared.Said.{Said}
 use Rattle.codec_cursor.specs.Readers.{Read, Reader, starting, need, readByte, readIdentifier, readSaid, mapped, both, section}
 use Rattle.codec.specs.Layout.{sectionBytes, all, saidBytes, goodSaid, goodIdentifier}
-use Rattle.registry_state_credential.specs.declared.state.CredentialState.{CredentialState}
-use Rattle.registry_status.specs.declared.status.StatusInput.{StatusInput}
-use Rattle.registry_status.specs.declared.status.DecodedStatus.{DecodedStatus}
+use Rattle.registry_state_credential.specs.declared.CredentialState.{CredentialState}
+use Rattle.registry_status.specs.declared.StatusInput.{StatusInput}
+use Rattle.registry_status.specs.declared.DecodedStatus.{DecodedStatus}
 use Rattle.registry_status.specs.declared.status.ReferenceRead.{ReferenceRead}
 use Rattle.registry_status.specs.declared.status.RegistriesRead.{RegistriesRead}
 use Rattle.registry_status.specs.declared.status.CredentialsRead.{CredentialsRead}

@@ -1,11 +1,11 @@
 -- The last checks of a revocation (docs/RULES.md, "Orders").
 use mathlib.Core.List.{[], _∷_}
 use Rattle.cesr.specs.Primitives.{eqSaid}
-use Rattle.cesr.specs.declared.primitive.Said.{Said}
+use Rattle.cesr.specs.declared.Said.{Said}
 use Rattle.events_tel.specs.TelEvents.{snOne}
-use Rattle.registry_state_credential.specs.declared.state.CredentialState.{CredentialState}
-use Rattle.registry_error.specs.declared.error.RegistryRejection.the-variants.{PriorDigestMismatch, InconsistentCredential}
-use Rattle.registry_error.specs.declared.error.Answer.{Answer}
+use Rattle.registry_state_credential.specs.declared.CredentialState.{CredentialState}
+use Rattle.registry_error.specs.declared.RegistryRejection.the-variants.{PriorDigestMismatch, InconsistentCredential}
+use Rattle.registry_error.specs.declared.Answer.{Answer}
 use Rattle.registry_answer.specs.Answers.{acceptIf, firstOf}
 use Rattle.registry_verification.specs.Sequence.{nextSn}
 

@@ -1,14 +1,14 @@
 // The place of a revocation behind the held state of its credential (docs/RULES.md, "Orders").
-use cesr::primitive::Matter;
-use cesr::primitive::Said;
-use cesr_sn::number::Sn;
+use cesr::Matter;
+use cesr::Said;
+use cesr_sn::Sn;
 use registry_answer::answer::accept_if;
 use registry_answer::answer::accepts;
 use registry_answer::answer::or_else;
-use registry_error::error::Answer;
-use registry_error::error::RegistryRejection;
-use registry_state_credential::state::CredentialAt;
-use registry_state_credential::state::CredentialState;
+use registry_error::Answer;
+use registry_error::RegistryRejection;
+use registry_state_credential::CredentialAt;
+use registry_state_credential::CredentialState;
 use registry_verification::sequence::next_sn;
 ghost use mathlib.Core.Path.{_≡_};
 ghost use Rattle.cesr.specs.Primitives.{saidAt};

@@ -17,7 +17,7 @@ use lib.Seq.{getD-set-same, getD-set-other}
 use Rattle.laws.specs.Count.{count}
 use Rattle.laws.proofs.Count.{count-same, count-more, count-none}
 use Rattle.laws.proofs.Tests.{and-left, and-right}
-use Rattle.codec_cursor.specs.declared.cursor.Cursor.{Cursor}
+use Rattle.codec_cursor.specs.declared.Cursor.{Cursor}
 use Rattle.codec_cursor.specs.Readers.{Read, times}
 use Rattle.registry_signatures.specs.SignatureSections.{Signature, readSignature}
 use Rattle.registry_verification.specs.Receipts.{hasGood, receipts, Marks, marked}

@@ -4,7 +4,7 @@ use mathlib.Core.Logic.{_≢_}
 use mathlib.Core.Bool.{Bool, true, false}
 use Rattle.cesr_sn.specs.Numbers.{value, snOf}
 use Rattle.cesr.specs.Primitives.{eqPrefix}
-use Rattle.cesr.specs.declared.primitive.BasicPrefix.{BasicPrefix}
+use Rattle.cesr.specs.declared.BasicPrefix.{BasicPrefix}
 use Rattle.cesr.proofs.Matters.{eq-prefix, prefix-eq}
 use Rattle.events.specs.Members.{has}
 use Rattle.events_toad.specs.Toads.{ceil, strongMajority, leastOf, ampleOf, exactOk, exactOf}

@@ -3,10 +3,10 @@ use Prim.Native.Nat.{_+_, _-_, _^_}
 use mathlib.Core.Bool.{cond}
 use lib.Dec.{eqb}
 use Rattle.cesr_sn.specs.Numbers.{value, snOf}
-use Rattle.cesr_sn.specs.declared.number.Sn.{Sn}
-use Rattle.registry_error.specs.declared.error.RegistryRejection.the-variants.{SequenceNumberOverflow, OutOfOrder}
-use Rattle.registry_error.specs.declared.error.Answer.{Answer}
-use Rattle.registry_error.specs.declared.error.Answer.the-variants.{Rejected}
+use Rattle.cesr_sn.specs.declared.Sn.{Sn}
+use Rattle.registry_error.specs.declared.RegistryRejection.the-variants.{SequenceNumberOverflow, OutOfOrder}
+use Rattle.registry_error.specs.declared.Answer.{Answer}
+use Rattle.registry_error.specs.declared.Answer.the-variants.{Rejected}
 use Rattle.registry_answer.specs.Answers.{acceptIf}
 
 -- the sn that comes behind another

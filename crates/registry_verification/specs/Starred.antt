@@ -4,13 +4,13 @@ use mathlib.Core.Path.{_≡_}
 use mathlib.Core.Logic.{_≢_}
 use mathlib.Core.List.{List, [], _∷_}
 use Rattle.cesr_sn.specs.Numbers.{snOf}
-use Rattle.cesr.specs.declared.primitive.BasicPrefix.{BasicPrefix}
+use Rattle.cesr.specs.declared.BasicPrefix.{BasicPrefix}
 use Rattle.events_toad.specs.Toads.{toadOf, exactOf, ampleOf}
-use Rattle.events_toad.specs.declared.toad.ToadResult.the-variants.{Valid, OutOfRange}
+use Rattle.events_toad.specs.declared.ToadResult.the-variants.{Valid, OutOfRange}
 use Rattle.registry_error.specs.Errors.{dispositionOf}
-use Rattle.registry_error.specs.declared.error.RegistryRejection.the-variants.{OutOfOrder}
-use Rattle.registry_disposition.specs.declared.disposition.Disposition.the-variants.{Contested, Awaiting}
-use Rattle.registry_disposition.specs.declared.disposition.EvidenceKind.the-variants.{PriorEvents}
+use Rattle.registry_error.specs.declared.RegistryRejection.the-variants.{OutOfOrder}
+use Rattle.registry_disposition.specs.declared.Disposition.the-variants.{Contested, Awaiting}
+use Rattle.registry_disposition.specs.declared.EvidenceKind.the-variants.{PriorEvents}
 use Rattle.registry_members.specs.Updated.{updatedMembers}
 
 -- a statement about every element of a list

@@ -1,8 +1,8 @@
 // The place of an event behind a state (docs/RULES.md, "Refusals").
-use cesr_sn::number::Sn;
+use cesr_sn::Sn;
 use registry_answer::answer::accept_if;
-use registry_error::error::Answer;
-use registry_error::error::RegistryRejection;
+use registry_error::Answer;
+use registry_error::RegistryRejection;
 ghost use mathlib.Core.Path.{_≡_};
 ghost use Rattle.registry_verification.specs.Sequence.{nextSn};
 

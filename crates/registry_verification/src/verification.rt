@@ -1,7 +1,7 @@
 // Receipts of backers (docs/RULES.md, "Receipts"). Verifying a signature is the caller's; an attempt has the verdicts.
 use codec::section::at_most_16;
-use codec_cursor::cursor::Cursor;
-use registry_signatures::signatures::Counted;
+use codec_cursor::Cursor;
+use registry_signatures::Counted;
 use registry_signatures::signatures::read_signature;
 ghost use mathlib.Core.Path.{_≡_};
 ghost use Prim.Native.Nat.{min};

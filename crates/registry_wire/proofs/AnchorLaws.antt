@@ -18,9 +18,9 @@ use Rattle.laws.specs.Number.{Bytes}
 use Rattle.laws.proofs.Tests.{and-left, and-right}
 use Rattle.cesr_sn.specs.Numbers.{readSn, snBytes}
 use Rattle.cesr.specs.Primitives.{readMatter, matterBytes}
-use Rattle.cesr_sn.specs.declared.number.Sn.{Sn}
-use Rattle.cesr.specs.declared.primitive.Matter.{Matter}
-use Rattle.cesr.specs.declared.primitive.Said.{Said}
+use Rattle.cesr_sn.specs.declared.Sn.{Sn}
+use Rattle.cesr.specs.declared.Matter.{Matter}
+use Rattle.cesr.specs.declared.Said.{Said}
 use Rattle.cesr.proofs.Matters.{length-matter}
 use Rattle.codec_cursor.specs.Readers.{placed, Read, starting, readNumber, readIf, readIdentifier, readSaid}
 use Rattle.codec.specs.Layout.{joined, sectionBytes, all, saidBytes, sealBytes, goodIdentifier, goodSn, goodSaid, goodSeal}
@@ -29,7 +29,7 @@ use Rattle.codec_laws.proofs.Codes.{codes-sn, codes-said, codes-identifier}
 use Rattle.registry_head.proofs.HeadWrites.{length-sn}
 use Rattle.registry_wire.specs.Attempts.{Anchor, anchorBytes, goodAnchor, chosenAnchors, anchorsIn, partOf, Holds}
 use Rattle.registry_seals.specs.SealSections.{chosen, sealSection, onlySeal, anchorSeals}
-use Rattle.registry_wire.specs.declared.attempt.Part.{Part}
+use Rattle.registry_wire.specs.declared.Part.{Part}
 use Rattle.registry_wire.proofs.AttemptLaws.{anchor-some}
 use Rattle.registry_seals.proofs.OnlySeal.{only-seal}
 

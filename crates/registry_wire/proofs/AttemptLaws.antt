@@ -17,7 +17,7 @@ use Rattle.laws.proofs.Tests.{and-left}
 use Rattle.cesr.specs.Primitives.{readMatter}
 use Rattle.cesr.proofs.Matters.{length-matter}
 use Rattle.events_tel.specs.TelEvents.{Event}
-use Rattle.codec_cursor.specs.declared.cursor.Cursor.{Cursor}
+use Rattle.codec_cursor.specs.declared.Cursor.{Cursor}
 use Rattle.codec_cursor.specs.Readers.{placed, Read, starting, need, readByte, readIf, readIdentifier, counted, times, countUpTo, section}
 use Rattle.codec.specs.Events.{readEvent}
 use Rattle.codec.specs.Layout.{joined}
@@ -30,11 +30,11 @@ use Rattle.registry_wire.specs.Attempts.{Anchor, Decoded, anchorBytes, g
 use Rattle.registry_signatures.specs.SignatureSections.{signatureBytes, goodSignature, readSignature, signaturesIn, passedSignatures}
 use Rattle.registry_wire.specs.Attempts.Evidence.{missing, issuer, backer}
 use Rattle.registry_wire.specs.Attempts.Decoded.{malformed, decoded}
-use Rattle.registry_source.specs.declared.source.Source.{Source}
-use Rattle.registry_wire.specs.declared.attempt.Part.{Part}
-use Rattle.registry_wire.specs.declared.attempt.AnchorsRead.{AnchorsRead}
-use Rattle.registry_wire.specs.declared.attempt.EvidenceRead.{EvidenceRead}
-use Rattle.registry_signatures.specs.declared.signatures.SignaturesRead.{SignaturesRead}
+use Rattle.registry_source.specs.declared.Source.{Source}
+use Rattle.registry_wire.specs.declared.Part.{Part}
+use Rattle.registry_wire.specs.declared.AnchorsRead.{AnchorsRead}
+use Rattle.registry_wire.specs.declared.EvidenceRead.{EvidenceRead}
+use Rattle.registry_signatures.specs.declared.SignaturesRead.{SignaturesRead}
 use Rattle.registry_wire.proofs.CodesAttempt.{codes-anchor, codes-signature, codes-evidence}
 
 -- a cursor that has not stopped is its place

@@ -11,12 +11,12 @@ use lib.Dec.{eqb, leb, lit<}
 use lib.ListN.{length}
 use Rattle.laws.specs.Number.{Bytes}
 use Rattle.cesr.specs.Primitives.{matterBytes}
-use Rattle.cesr_sn.specs.declared.number.Sn.{Sn}
-use Rattle.cesr.specs.declared.primitive.Matter.{Matter}
-use Rattle.cesr.specs.declared.primitive.Said.{Said}
+use Rattle.cesr_sn.specs.declared.Sn.{Sn}
+use Rattle.cesr.specs.declared.Matter.{Matter}
+use Rattle.cesr.specs.declared.Said.{Said}
 use Rattle.events_tel.specs.TelEvents.{Event}
-use Rattle.events_seal.specs.declared.seal.Seal.{Seal}
-use Rattle.codec_cursor.specs.declared.cursor.Cursor.{Cursor}
+use Rattle.events_seal.specs.declared.Seal.{Seal}
+use Rattle.codec_cursor.specs.declared.Cursor.{Cursor}
 use Rattle.codec_cursor.specs.Readers.{placed, starting, both, after, readByte, readIdentifier}
 use Rattle.codec.specs.Events.{readSeal}
 use Rattle.codec.specs.Layout.{joined, sectionBytes, all, sealBytes, goodIdentifier, goodSeal, goodToad}
@@ -33,7 +33,7 @@ use Rattle.registry_wire.specs.Attempts.{Anchor, Evidence, Message, anch
 use Rattle.registry_signatures.specs.SignatureSections.{Signature, signatureBytes, goodSignature, signatureOf, readSignature}
 use Rattle.registry_wire.specs.Attempts.Evidence.{missing, issuer, backer, backerAt}
 use Rattle.registry_wire.specs.Attempts.Decoded.{malformed, decoded}
-use Rattle.registry_source.specs.declared.source.Source.{Source}
+use Rattle.registry_source.specs.declared.Source.{Source}
 use Rattle.registry_state.proofs.CodesState.{codes-registry}
 
 sourceParts : Source → Sn × Said

@@ -7,24 +7,24 @@ use lib.Dec.{leb, eqb}
 use lib.ListN.{length, take, drop}
 use Rattle.cesr_sn.specs.Numbers.{snBytes}
 use Rattle.cesr.specs.Primitives.{matterBytes, readMatter}
-use Rattle.cesr_sn.specs.declared.number.Sn.{Sn}
-use Rattle.cesr.specs.declared.primitive.Matter.{Matter}
-use Rattle.cesr.specs.declared.primitive.Said.{Said}
+use Rattle.cesr_sn.specs.declared.Sn.{Sn}
+use Rattle.cesr.specs.declared.Matter.{Matter}
+use Rattle.cesr.specs.declared.Said.{Said}
 use Rattle.events_tel.specs.TelEvents.{Event, viewEvent}
-use Rattle.events_seal.specs.declared.seal.Seal.{Seal}
-use Rattle.codec_cursor.specs.declared.cursor.Cursor.{Cursor}
+use Rattle.events_seal.specs.declared.Seal.{Seal}
+use Rattle.codec_cursor.specs.declared.Cursor.{Cursor}
 use Rattle.codec_cursor.specs.Readers.{Read, Reader, placed, starting, need, readByte, readNumber, readIdentifier, readSaid, mapped, both, after, countUpTo, section}
 use Rattle.codec.specs.Events.{readSeal, readEvent}
 use Rattle.codec.specs.Layout.{joined, sectionBytes, all, saidBytes, sealBytes, eventBytes, goodSaid, goodIdentifier, goodSn, goodSeal, goodEvent}
 use Rattle.registry_state.specs.States.{Registry, registryBytes, goodRegistry, readRegistry}
 use Rattle.registry_source.specs.Sources.{sourceBytes, goodSource, readSource}
-use Rattle.registry_source.specs.declared.source.Source.{Source}
+use Rattle.registry_source.specs.declared.Source.{Source}
 use Rattle.registry_signatures.specs.SignatureSections.{Signature, signatureBytes, goodSignature, readSignature, signaturesIn}
-use Rattle.registry_wire.specs.declared.attempt.Part.{Part}
-use Rattle.registry_wire.specs.declared.attempt.DecodedAttempt.{DecodedAttempt}
-use Rattle.registry_wire.specs.declared.attempt.Attempt.{Attempt}
-use Rattle.registry_wire.specs.declared.attempt.AnchorsRead.{AnchorsRead}
-use Rattle.registry_wire.specs.declared.attempt.EvidenceRead.{EvidenceRead}
+use Rattle.registry_wire.specs.declared.Part.{Part}
+use Rattle.registry_wire.specs.declared.DecodedAttempt.{DecodedAttempt}
+use Rattle.registry_wire.specs.declared.Attempt.{Attempt}
+use Rattle.registry_wire.specs.declared.AnchorsRead.{AnchorsRead}
+use Rattle.registry_wire.specs.declared.EvidenceRead.{EvidenceRead}
 
 -- an anchoring event
 pub record Anchor : Type 0 where

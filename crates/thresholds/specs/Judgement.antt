@@ -4,8 +4,8 @@ use mathlib.Core.List.{List, [], _∷_}
 use mathlib.Core.Bool.{Bool, not, cond, _&&_, _||_}
 use lib.Dec.{eqb, leb}
 use Rattle.laws.specs.Words.{sameList}
-use Rattle.events_toad.specs.declared.toad.ToadResult.{ToadResult}
-use Rattle.events_toad.specs.declared.toad.ToadResult.the-variants.{Valid, OutOfRange, Overflow}
+use Rattle.events_toad.specs.declared.ToadResult.{ToadResult}
+use Rattle.events_toad.specs.declared.ToadResult.the-variants.{Valid, OutOfRange, Overflow}
 use Rattle.events_toad.specs.Toads.{toadNumber, exactOf, ampleOf}
 use Rattle.thresholds.specs.declared.text.Decimal.{Decimal}
 use Rattle.thresholds.specs.declared.Verdict.{Verdict}

@@ -3,8 +3,8 @@
 // refusal's number and the threshold, or `-` where there is none.
 mod text;
 
-use events_toad::toad::Toad;
-use events_toad::toad::ToadResult;
+use events_toad::Toad;
+use events_toad::ToadResult;
 use libc::STDIN_FILENO;
 use libc::STDOUT_FILENO;
 use text::Decimal;

@@ -3,7 +3,7 @@ use Prim.Native.Nat.{ℕ}
 use mathlib.Core.Path.{ap, _∙_}
 use mathlib.Core.List.{List}
 use native.Mathlib.Omega.{arith}
-use Rattle.cesr.specs.declared.primitive.BasicPrefix.{BasicPrefix}
+use Rattle.cesr.specs.declared.BasicPrefix.{BasicPrefix}
 use denote.Ref.{now}
 use Rattle.codec_cursor.specs.Readers.{Read, readPrefix, times}
 use Rattle.events_tel.specs.TelEvents.{membersIn}

@@ -5,7 +5,7 @@ use mathlib.Core.List.{List, [], _∷_, _++_}
 use native.Mathlib.Omega.{arith}
 use denote.Ref.{now}
 use lib.ListN.{length, take, length-set}
-use Rattle.cesr.specs.declared.primitive.BasicPrefix.{BasicPrefix}
+use Rattle.cesr.specs.declared.BasicPrefix.{BasicPrefix}
 use Rattle.events.specs.Members.{view}
 use Rattle.codec_cursor.specs.Readers.{Read, readPrefix, times}
 use Rattle.codec.proofs.Loops.{times-pushed, view-put}

@@ -6,7 +6,7 @@ use lib.Dec.{eqb}
 use denote.Ref.{now}
 use borrow.Author.Tests.{ne-eqb}
 use borrow.Author.Needs.{needs}
-use Rattle.codec_cursor.specs.declared.cursor.Cursor.{Cursor}
+use Rattle.codec_cursor.specs.declared.Cursor.{Cursor}
 use Rattle.codec_cursor.specs.Readers.{need}
 use Rattle.codec.specs.Events.{readBis, readBrv, readKind, readEvent}
 use Rattle.codec_tel.proofs.tel.read_event.Statement.{statement}

@@ -7,7 +7,7 @@ use borrow.Author.Count.{below-more}
 use lib.ListN.{length, take}
 use Rattle.laws.proofs.Views.{length-mapped}
 use Rattle.events.specs.Members.{view, has, breaks}
-use Rattle.events.proofs.Members.{view-at, until-within, held-step, held-breaks, check-found, all-sound}
+use Rattle.events.proofs.MemberLaws.{view-at, until-within, held-step, held-breaks, check-found, all-sound}
 use Rattle.events_member_set.proofs.member_set.check_rule.Statement.{statement}
 use Rattle.events_member_set.proofs.member_set.check_rule.Tie as tie
 

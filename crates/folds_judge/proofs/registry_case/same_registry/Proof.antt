@@ -4,8 +4,8 @@ use native.Mathlib.Omega.{arith}
 use lib.ListN.{length}
 use lib.Seq.{length-take-le}
 use Rattle.laws.proofs.Views.{length-mapped}
-use Rattle.events_tel.proofs.Configs as C
-use Rattle.events.proofs.Members as M
+use Rattle.events_tel.proofs.ConfigLaws as C
+use Rattle.events.proofs.MemberLaws as M
 use Rattle.registry_state.specs.States.{viewRegistry, registryBytes}
 use Rattle.registry_state.proofs.StateLoops.{length-registry}
 use Rattle.folds_judge.proofs.Laws.{written}

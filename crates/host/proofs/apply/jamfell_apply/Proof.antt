@@ -36,26 +36,26 @@ use denote.Triple.Entry.{onEntry}
 use denote.Triple.Spec.{Meets, tripleOf}
 use denote.Triple.Table.{entered, cited}
 use denote.Triple.Walked.{says, onExit, walkOf, Walks, ends-at, walked, walk-meets}
-use Rattle.registry_state.specs.declared.state.RegistryState.{RegistryState}
-use Rattle.registry_state_credential.specs.declared.state.CredentialState.{CredentialState}
-use Rattle.registry_state.proofs.state.RegistryState as G
-use Rattle.registry_state_credential.proofs.state.CredentialState as T
+use Rattle.registry_state.specs.declared.RegistryState.{RegistryState}
+use Rattle.registry_state_credential.specs.declared.CredentialState.{CredentialState}
+use Rattle.registry_state.proofs.RegistryState as G
+use Rattle.registry_state_credential.proofs.CredentialState as T
 use Rattle.registry_answer.specs.Answers.{accepts}
 use Rattle.registry_error.specs.Errors.{answerNumber}
-use Rattle.registry_error.specs.declared.error.Answer.{Answer}
-use Rattle.registry_error.proofs.error.Answer as E
-use Rattle.registry_error.proofs.error.Answer.Laws as E′
+use Rattle.registry_error.specs.declared.Answer.{Answer}
+use Rattle.registry_error.proofs.Answer as E
+use Rattle.registry_error.proofs.Answer.Laws as E′
 use Rattle.ledger_step.specs.Ledgers as L
 use Rattle.ledger_step.specs.Ledgers.{lentLedger}
 use Rattle.ledger_step.specs.Steps.{requestOf, effect, stepOf}
 use Rattle.ledger_stores.specs.Applies.{lent as slices, Stores}
-use Rattle.ledger_stores.specs.declared.call.Applied.{Applied}
-use Rattle.ledger_stores.proofs.call.Applied as B
-use Rattle.ledger_stores.proofs.call.Applied.Laws as B′
+use Rattle.ledger_stores.specs.declared.Applied.{Applied}
+use Rattle.ledger_stores.proofs.Applied as B
+use Rattle.ledger_stores.proofs.Applied.Laws as B′
 use Rattle.ledger_table.proofs.Spelled.{Parts, viewed}
 use Rattle.ledger_laws.proofs.ApplyLedger.{next, applied-answer, applied-view, applied-kept}
 use Rattle.host_report.specs.Reports.{answerReport}
-use Rattle.ledger_table.proofs.table.Ledger as K
+use Rattle.ledger_table.proofs.Ledger as K
 use Rattle.host_laws.proofs.LentLedger.{word, Count-g, Count-w, ref-gs, val-gs, Own-gs, ref-ws, val-ws, Own-ws, Kept}
 use Rattle.host_laws.proofs.LentCalls.{Call, bytes-36, stayed, gs, m, ws, n, κs, qs, ref-bytes, val-bytes, Own-bytes, ref-36, Own-report, x, at, called, gone, Shut, Open, Left, has-left, lends-on, closes-at, Blocks, En, answer, number, Unanswered, Answered, begins, leaves}
 use Rattle.ledger_apply.proofs.apply.apply as apply

@@ -34,8 +34,8 @@ use denote.Triple.Table.{entered, cited}
 use denote.Triple.Walked.{says, Stays, gave-ref, walkOf, goes-gave-ref, Walks, ends-at, walked, walk-meets}
 use Rattle.ledger_image.specs.Images.{ledgerOf}
 use Rattle.ledger_table.specs.Tables.{viewLedger}
-use Rattle.ledger_table.specs.declared.table.Ledger.{Ledger}
-use Rattle.ledger_table.proofs.table.Ledger as K
+use Rattle.ledger_table.specs.declared.Ledger.{Ledger}
+use Rattle.ledger_table.proofs.Ledger as K
 use Rattle.host_empty.proofs.empty.empty as empty
 use Rattle.host_empty.proofs.empty.empty.Symbol as empty-def
 use Rattle.host_empty.proofs.empty.empty.Symbol.{name as #empty}

@@ -39,19 +39,19 @@ use denote.Triple.Spec.{Meets, tripleOf}
 use denote.Triple.Table.{entered, cited}
 use denote.Triple.Walked.{says, onExit, Stays, stay-dropped, gave-ref, walkOf, goes-dropped, goes-gave-ref, Walks, ends-at, walked, walk-meets}
 use denote.Exit.{yes}
-use Rattle.cesr.proofs.primitive.Said as S
-use Rattle.cesr.proofs.primitive.Said.Laws as S′
-use Rattle.registry_state.specs.declared.state.RegistryState.{RegistryState}
-use Rattle.registry_state_credential.specs.declared.state.CredentialState.{CredentialState}
-use Rattle.cesr.specs.declared.primitive.Said.{Said}
+use Rattle.cesr.proofs.Said as S
+use Rattle.cesr.proofs.Said.Laws as S′
+use Rattle.registry_state.specs.declared.RegistryState.{RegistryState}
+use Rattle.registry_state_credential.specs.declared.CredentialState.{CredentialState}
+use Rattle.cesr.specs.declared.Said.{Said}
 use Rattle.ledger_step.specs.Ledgers.{LookedUp, lentLedger, lookUp}
 use Rattle.ledger_standing.specs.Lookups.{viewLookedUp}
-use Rattle.ledger_standing.specs.declared.lookup.LookedUp.{LookedUp as Answered}
-use Rattle.ledger_standing.proofs.lookup.LookedUp as P
-use Rattle.ledger_standing.proofs.lookup.LookedUp.Laws as P′
+use Rattle.ledger_standing.specs.declared.LookedUp.{LookedUp as Answered}
+use Rattle.ledger_standing.proofs.LookedUp as P
+use Rattle.ledger_standing.proofs.LookedUp.Laws as P′
 use Rattle.ledger_table.specs.Tables.{viewLedger}
-use Rattle.ledger_table.specs.declared.table.Ledger.{Ledger}
-use Rattle.ledger_table.proofs.table.Ledger as K
+use Rattle.ledger_table.specs.declared.Ledger.{Ledger}
+use Rattle.ledger_table.proofs.Ledger as K
 use Rattle.ledger_table.proofs.Spelled.{Parts, length-g, length-w, viewed}
 use Rattle.host_ledger.specs.LedgerCalls.{keyIn, viewKey, lookedUpReport, lookUpReport}
 use Rattle.host_ledger.proofs.ReportedAnswers.{looked-up-told}

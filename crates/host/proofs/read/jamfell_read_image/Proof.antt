@@ -35,20 +35,20 @@ use denote.Triple.Entry.{onEntry}
 use denote.Triple.Spec.{Meets, tripleOf}
 use denote.Triple.Table.{entered, cited}
 use denote.Triple.Walked.{says, onExit, walkOf, Walks, ends-at, walked, walk-meets}
-use Rattle.registry_state.specs.declared.state.RegistryState.{RegistryState}
-use Rattle.registry_state_credential.specs.declared.state.CredentialState.{CredentialState}
-use Rattle.registry_state.proofs.state.RegistryState as G
-use Rattle.registry_state_credential.proofs.state.CredentialState as T
+use Rattle.registry_state.specs.declared.RegistryState.{RegistryState}
+use Rattle.registry_state_credential.specs.declared.CredentialState.{CredentialState}
+use Rattle.registry_state.proofs.RegistryState as G
+use Rattle.registry_state_credential.proofs.CredentialState as T
 use Rattle.ledger_image.specs.Images.{ImageAnswer, imageOf, imageInto, imageNumber}
 use Rattle.ledger_read.specs.ImageReads.{countsOf, countsAfter, rowsAfter, RegistriesAfter}
-use Rattle.ledger_read.specs.declared.read.ImageRead.{ImageRead}
-use Rattle.ledger_read.proofs.read.ImageRead as I
-use Rattle.ledger_read.proofs.read.ImageRead.Laws as I′
+use Rattle.ledger_read.specs.declared.ImageRead.{ImageRead}
+use Rattle.ledger_read.proofs.ImageRead as I
+use Rattle.ledger_read.proofs.ImageRead.Laws as I′
 use Rattle.ledger_read.proofs.ReadBack.{ReadInto}
 use Rattle.ledger_table.proofs.Spelled.{Parts, length-g, length-w}
 use Rattle.ledger_laws.proofs.ReadLedger.{next, answer-is, read-view, read-kept}
 use Rattle.host_ledger.specs.LedgerCalls.{readReport}
-use Rattle.ledger_table.proofs.table.Ledger as K
+use Rattle.ledger_table.proofs.Ledger as K
 use Rattle.host_laws.proofs.LentLedger.{word, Count-g, Count-w, ref-gs, val-gs, Own-gs, ref-ws, val-ws, Own-ws, Kept}
 use Rattle.host_laws.proofs.LentCalls.{Call, bytes-36, stayed, gs, m, ws, n, κs, qs, ref-bytes, val-bytes, Own-bytes, ref-36, Own-report, x, at, called, gone, Shut, Open, Left, has-left, lends-on, closes-at, Blocks, En, answer, number, Unanswered, Answered, begins, leaves}
 use Rattle.ledger_read.proofs.read.read_image as read

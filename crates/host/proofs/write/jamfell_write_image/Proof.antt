@@ -39,17 +39,17 @@ use denote.Triple.Spec.{Meets, tripleOf}
 use denote.Triple.Table.{entered, cited}
 use denote.Triple.Walked.{says, onExit, Stays, stay-dropped, gave-ref, gave-slice, walkOf, goes-dropped, goes-gave-ref, goes-gave-slice, Walks, ends-at, walked, walk-meets}
 use denote.Exit.{yes}
-use Rattle.registry_state.specs.declared.state.RegistryState.{RegistryState}
-use Rattle.registry_state_credential.specs.declared.state.CredentialState.{CredentialState}
+use Rattle.registry_state.specs.declared.RegistryState.{RegistryState}
+use Rattle.registry_state_credential.specs.declared.CredentialState.{CredentialState}
 use Rattle.ledger_step.specs.Ledgers.{lentLedger}
 use Rattle.ledger_image.specs.Images.{Written, writtenOf}
 use Rattle.ledger_written.specs.Writes.{viewWritten}
-use Rattle.ledger_written.specs.declared.answer.Written.{Written as Answered}
-use Rattle.ledger_written.proofs.answer.Written as P
-use Rattle.ledger_written.proofs.answer.Written.Laws as P′
+use Rattle.ledger_written.specs.declared.Written.{Written as Answered}
+use Rattle.ledger_written.proofs.Written as P
+use Rattle.ledger_written.proofs.Written.Laws as P′
 use Rattle.ledger_table.specs.Tables.{viewLedger}
-use Rattle.ledger_table.specs.declared.table.Ledger.{Ledger}
-use Rattle.ledger_table.proofs.table.Ledger as K
+use Rattle.ledger_table.specs.declared.Ledger.{Ledger}
+use Rattle.ledger_table.proofs.Ledger as K
 use Rattle.ledger_table.proofs.Spelled.{Parts, length-g, length-w, viewed}
 use Rattle.host_ledger.specs.LedgerCalls.{writtenReport, imageReport}
 use Rattle.host_ledger.proofs.ReportedAnswers.{written-told}

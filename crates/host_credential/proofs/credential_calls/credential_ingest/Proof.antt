@@ -6,7 +6,7 @@ use Rattle.events_tel.specs.TelEvents.{membersIn}
 use Rattle.registry_management.specs.Managements.{viewManagement, viewManagementRead}
 use Rattle.registry_state.specs.States.{Registry}
 use Rattle.registry_state_credential.specs.CredentialStates.{credentialAt}
-use Rattle.registry_state_credential.specs.declared.state.CredentialState.{CredentialState}
+use Rattle.registry_state_credential.specs.declared.CredentialState.{CredentialState}
 use Rattle.registry_credential_state.specs.CredentialParts.{revocationAnswer, revocationAt}
 use Rattle.registry_credential_state.proofs.PartLaws.{answer-decides, own-decides, place-decides}
 use Rattle.host_next.specs.ByteFolds.{Folded, credentialFolded, callOf}

@@ -36,9 +36,9 @@ use denote.Triple.Walked.{says, Stays, stay-ref, walkOf, goes-ref, Walks, ends-a
 use Rattle.ledger_step.specs.Ledgers.{lentLedger}
 use Rattle.ledger_image.specs.Images.{ledgerOf}
 use Rattle.ledger_table.specs.Tables.{viewLedger}
-use Rattle.ledger_table.specs.declared.table.Ledger.{Ledger}
-use Rattle.ledger_table.proofs.table.Ledger as K
-use Rattle.ledger_table.proofs.table.Ledger.Laws as K′
+use Rattle.ledger_table.specs.declared.Ledger.{Ledger}
+use Rattle.ledger_table.proofs.Ledger as K
+use Rattle.ledger_table.proofs.Ledger.Laws as K′
 use Rattle.ledger_table.proofs.Spelled.{spelled, tells, Parts, parts, whole as ledger-is, length-g, length-w}
 use Rattle.host_laws.proofs.LentLedger.{word, fields, Cell}
 use Rattle.host_empty.proofs.empty.empty.Key.{name as #me}

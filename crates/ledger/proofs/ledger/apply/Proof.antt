@@ -42,28 +42,28 @@ use denote.Triple.Spec.{Meets, tripleOf}
 use denote.Triple.Table.{entered, cited}
 use denote.Triple.Walked.{says, onExit, Stays, stay-none, stay-dropped, walkOf, goes-none, goes-dropped, Walks, ends-at, walked, walk-meets}
 use denote.Exit.{yes}
-use Rattle.registry_state.specs.declared.state.RegistryState.{RegistryState}
-use Rattle.registry_state_credential.specs.declared.state.CredentialState.{CredentialState}
-use Rattle.registry_state.proofs.state.RegistryState as G
-use Rattle.registry_state.proofs.state.RegistryState.Laws as G′
-use Rattle.registry_state_credential.proofs.state.CredentialState as T
-use Rattle.registry_state_credential.proofs.state.CredentialState.Laws as T′
-use Rattle.ledger_table.specs.declared.table.Ledger.{Ledger}
-use Rattle.ledger_table.proofs.table.Ledger as K
-use Rattle.ledger_table.proofs.table.Ledger.Laws as K′
+use Rattle.registry_state.specs.declared.RegistryState.{RegistryState}
+use Rattle.registry_state_credential.specs.declared.CredentialState.{CredentialState}
+use Rattle.registry_state.proofs.RegistryState as G
+use Rattle.registry_state.proofs.RegistryState.Laws as G′
+use Rattle.registry_state_credential.proofs.CredentialState as T
+use Rattle.registry_state_credential.proofs.CredentialState.Laws as T′
+use Rattle.ledger_table.specs.declared.Ledger.{Ledger}
+use Rattle.ledger_table.proofs.Ledger as K
+use Rattle.ledger_table.proofs.Ledger.Laws as K′
 use Rattle.ledger.proofs.HeldFields.{word, arr-g, arr-w, fields}
 use Rattle.ledger_table.proofs.ArrayLoans.{lends, backs}
 use Rattle.ledger_table.proofs.Spelled.{low-g, low-w, spelled, tells, IsG, IsW, Parts, parts, whole as ledger-is, length-g, length-w, room-g, room-w}
 use Rattle.ledger_step.specs.Ledgers.{lentLedger}
 use Rattle.ledger_step.specs.Steps.{requestOf, effect, stepOf}
 use Rattle.ledger_stores.specs.Applies.{lent as slices, Stores}
-use Rattle.registry_error.proofs.error.Answer.Laws as E′
-use Rattle.ledger_stores.specs.declared.call.Applied.{Applied}
-use Rattle.ledger_stores.proofs.call.Applied as B
-use Rattle.ledger_stores.proofs.call.Applied.Laws as B′
-use Rattle.ledger.specs.declared.ledger.LedgerApplied.{LedgerApplied}
-use Rattle.ledger.proofs.ledger.LedgerApplied as N
-use Rattle.ledger.proofs.ledger.LedgerApplied.Laws as N′
+use Rattle.registry_error.proofs.Answer.Laws as E′
+use Rattle.ledger_stores.specs.declared.Applied.{Applied}
+use Rattle.ledger_stores.proofs.Applied as B
+use Rattle.ledger_stores.proofs.Applied.Laws as B′
+use Rattle.ledger.specs.declared.LedgerApplied.{LedgerApplied}
+use Rattle.ledger.proofs.LedgerApplied as N
+use Rattle.ledger.proofs.LedgerApplied.Laws as N′
 use Rattle.ledger.proofs.SpelledApplied.{spelled-call, spelled-applied, whole-applied}
 use Rattle.ledger_laws.proofs.ApplyLedger.{next, applied-answer, applied-view, applied-kept}
 use Rattle.ledger_apply.proofs.apply.apply as callee

@@ -39,26 +39,26 @@ use denote.Triple.Spec.{Meets, tripleOf}
 use denote.Triple.Table.{entered, cited}
 use denote.Triple.Walked.{says, Stays, stay-none, walkOf, goes-none, Walks, ends-at, walked, walk-meets}
 use denote.Exit.{yes}
-use Rattle.registry_state.specs.declared.state.RegistryState.{RegistryState}
-use Rattle.registry_state_credential.specs.declared.state.CredentialState.{CredentialState}
-use Rattle.registry_state.proofs.state.RegistryState as G
-use Rattle.registry_state.proofs.state.RegistryState.Laws as G′
-use Rattle.registry_state_credential.proofs.state.CredentialState as T
-use Rattle.registry_state_credential.proofs.state.CredentialState.Laws as T′
-use Rattle.ledger_table.specs.declared.table.Ledger.{Ledger}
-use Rattle.ledger_table.proofs.table.Ledger as K
-use Rattle.ledger_table.proofs.table.Ledger.Laws as K′
+use Rattle.registry_state.specs.declared.RegistryState.{RegistryState}
+use Rattle.registry_state_credential.specs.declared.CredentialState.{CredentialState}
+use Rattle.registry_state.proofs.RegistryState as G
+use Rattle.registry_state.proofs.RegistryState.Laws as G′
+use Rattle.registry_state_credential.proofs.CredentialState as T
+use Rattle.registry_state_credential.proofs.CredentialState.Laws as T′
+use Rattle.ledger_table.specs.declared.Ledger.{Ledger}
+use Rattle.ledger_table.proofs.Ledger as K
+use Rattle.ledger_table.proofs.Ledger.Laws as K′
 use Rattle.ledger.proofs.HeldFields.{word, arr-g, arr-w, fields}
 use Rattle.ledger_table.proofs.ArrayLoans.{Shared, shares, unshares}
 use Rattle.ledger_table.proofs.Spelled.{low-g, low-w, spelled, tells, Parts, parts, length-g, length-w, room-g, room-w}
-use Rattle.cesr.specs.declared.primitive.Said.{Said}
-use Rattle.cesr.proofs.primitive.Said as S
-use Rattle.cesr.proofs.primitive.Said.Laws as S′
+use Rattle.cesr.specs.declared.Said.{Said}
+use Rattle.cesr.proofs.Said as S
+use Rattle.cesr.proofs.Said.Laws as S′
 use Rattle.ledger_step.specs.Ledgers.{lentLedger, lookUp}
 use Rattle.ledger_standing.specs.Lookups.{keyPair, viewLookedUp}
-use Rattle.ledger_standing.specs.declared.lookup.LookedUp.{LookedUp as Answered}
-use Rattle.ledger_standing.proofs.lookup.LookedUp as P
-use Rattle.ledger_standing.proofs.lookup.LookedUp.Laws as P′
+use Rattle.ledger_standing.specs.declared.LookedUp.{LookedUp as Answered}
+use Rattle.ledger_standing.proofs.LookedUp as P
+use Rattle.ledger_standing.proofs.LookedUp.Laws as P′
 use Rattle.ledger_table.proofs.Spelled.{viewed}
 use Rattle.ledger_lookup.proofs.lookup.look_up as callee
 use Rattle.ledger_lookup.proofs.lookup.look_up.Symbol as callee-def

@@ -42,15 +42,15 @@ use denote.Triple.Spec.{Meets, tripleOf}
 use denote.Triple.Table.{entered, cited}
 use denote.Triple.Walked.{says, onExit, Stays, stay-none, stay-dropped, walkOf, goes-none, goes-dropped, Walks, ends-at, walked, walk-meets}
 use denote.Exit.{yes}
-use Rattle.registry_state.specs.declared.state.RegistryState.{RegistryState}
-use Rattle.registry_state_credential.specs.declared.state.CredentialState.{CredentialState}
-use Rattle.registry_state.proofs.state.RegistryState as G
-use Rattle.registry_state.proofs.state.RegistryState.Laws as G′
-use Rattle.registry_state_credential.proofs.state.CredentialState as T
-use Rattle.registry_state_credential.proofs.state.CredentialState.Laws as T′
-use Rattle.ledger_table.specs.declared.table.Ledger.{Ledger}
-use Rattle.ledger_table.proofs.table.Ledger as K
-use Rattle.ledger_table.proofs.table.Ledger.Laws as K′
+use Rattle.registry_state.specs.declared.RegistryState.{RegistryState}
+use Rattle.registry_state_credential.specs.declared.CredentialState.{CredentialState}
+use Rattle.registry_state.proofs.RegistryState as G
+use Rattle.registry_state.proofs.RegistryState.Laws as G′
+use Rattle.registry_state_credential.proofs.CredentialState as T
+use Rattle.registry_state_credential.proofs.CredentialState.Laws as T′
+use Rattle.ledger_table.specs.declared.Ledger.{Ledger}
+use Rattle.ledger_table.proofs.Ledger as K
+use Rattle.ledger_table.proofs.Ledger.Laws as K′
 use Rattle.ledger.proofs.HeldFields.{word, arr-g, arr-w, fields}
 use Rattle.ledger_table.proofs.ArrayLoans.{lends, backs}
 use Rattle.ledger_table.proofs.Spelled.{low-g, low-w, spelled, tells, IsG, IsW, Parts, parts, whole as ledger-is, length-g, length-w, room-g, room-w}
@@ -58,13 +58,13 @@ use Rattle.ledger_image.specs.Images.{imageInto, imageOf, imageNumber}
 use Rattle.ledger_image.specs.Images.ImageAnswer.{refused}
 use Rattle.ledger_read.proofs.ReadBack.{ReadInto}
 use Rattle.ledger_read.specs.ImageReads.{countsOf, countsAfter, rowsAfter, RegistriesAfter}
-use Rattle.ledger_read.specs.declared.read.ImageRead.{ImageRead}
-use Rattle.ledger_read.proofs.read.ImageRead as I
-use Rattle.ledger_read.proofs.read.ImageRead.Laws as I′
+use Rattle.ledger_read.specs.declared.ImageRead.{ImageRead}
+use Rattle.ledger_read.proofs.ImageRead as I
+use Rattle.ledger_read.proofs.ImageRead.Laws as I′
 use Rattle.ledger_table.specs.Tables.{viewLedger, ledgerAfter}
-use Rattle.ledger.specs.declared.ledger.LedgerRead.{LedgerRead}
-use Rattle.ledger.proofs.ledger.LedgerRead as N
-use Rattle.ledger.proofs.ledger.LedgerRead.Laws as N′
+use Rattle.ledger.specs.declared.LedgerRead.{LedgerRead}
+use Rattle.ledger.proofs.LedgerRead as N
+use Rattle.ledger.proofs.LedgerRead.Laws as N′
 use Rattle.ledger.proofs.SpelledRead.{spelled-read, whole-read}
 use Rattle.ledger_laws.proofs.ReadLedger.{next, answer-is, read-view, read-kept}
 use Rattle.ledger_read.proofs.read.read_image as callee

@@ -41,24 +41,24 @@ use denote.Triple.Spec.{Meets, tripleOf}
 use denote.Triple.Table.{entered, cited}
 use denote.Triple.Walked.{says, Stays, stay-none, gave-slice, walkOf, goes-none, goes-gave-slice, Walks, ends-at, walked, walk-meets}
 use denote.Exit.{yes}
-use Rattle.registry_state.specs.declared.state.RegistryState.{RegistryState}
-use Rattle.registry_state_credential.specs.declared.state.CredentialState.{CredentialState}
-use Rattle.registry_state.proofs.state.RegistryState as G
-use Rattle.registry_state.proofs.state.RegistryState.Laws as G′
-use Rattle.registry_state_credential.proofs.state.CredentialState as T
-use Rattle.registry_state_credential.proofs.state.CredentialState.Laws as T′
-use Rattle.ledger_table.specs.declared.table.Ledger.{Ledger}
-use Rattle.ledger_table.proofs.table.Ledger as K
-use Rattle.ledger_table.proofs.table.Ledger.Laws as K′
+use Rattle.registry_state.specs.declared.RegistryState.{RegistryState}
+use Rattle.registry_state_credential.specs.declared.CredentialState.{CredentialState}
+use Rattle.registry_state.proofs.RegistryState as G
+use Rattle.registry_state.proofs.RegistryState.Laws as G′
+use Rattle.registry_state_credential.proofs.CredentialState as T
+use Rattle.registry_state_credential.proofs.CredentialState.Laws as T′
+use Rattle.ledger_table.specs.declared.Ledger.{Ledger}
+use Rattle.ledger_table.proofs.Ledger as K
+use Rattle.ledger_table.proofs.Ledger.Laws as K′
 use Rattle.ledger.proofs.HeldFields.{word, arr-g, arr-w, fields}
 use Rattle.ledger_table.proofs.ArrayLoans.{Shared, shares, unshares}
 use Rattle.ledger_table.proofs.Spelled.{low-g, low-w, spelled, tells, Parts, parts, length-g, length-w, room-g, room-w}
 use Rattle.ledger_step.specs.Ledgers.{lentLedger}
 use Rattle.ledger_image.specs.Images.{writtenOf}
 use Rattle.ledger_written.specs.Writes.{viewWritten}
-use Rattle.ledger_written.specs.declared.answer.Written.{Written as Answered}
-use Rattle.ledger_written.proofs.answer.Written as P
-use Rattle.ledger_written.proofs.answer.Written.Laws as P′
+use Rattle.ledger_written.specs.declared.Written.{Written as Answered}
+use Rattle.ledger_written.proofs.Written as P
+use Rattle.ledger_written.proofs.Written.Laws as P′
 use Rattle.ledger_table.proofs.Spelled.{viewed}
 use Rattle.ledger_write.proofs.write.write_image as callee
 use Rattle.ledger_write.proofs.write.write_image.Symbol as callee-def

@@ -4,7 +4,7 @@ use mathlib.Core.List.{[]}
 use borrow.Author.Tests.{not-true, not-false, lt-ltb, le-ltb}
 use Rattle.registry_answer.specs.Answers.{firstOf}
 use Rattle.registry_answer.proofs.AnswerLaws.{first-failed, first-passed, first-refuses, first-passes}
-use Rattle.registry_error.specs.declared.error.Answer.the-variants.{Accepted}
+use Rattle.registry_error.specs.declared.Answer.the-variants.{Accepted}
 use Rattle.ledger_answers.specs.Checks.{inceptionAnswer}
 use borrow.Author.Needs.{needs}
 use Rattle.ledger_answers.proofs.answers.inception_answer.Statement.{statement}

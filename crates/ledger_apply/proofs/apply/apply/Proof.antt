@@ -44,34 +44,34 @@ use denote.Triple.Spec.{Meets, tripleOf}
 use denote.Triple.Table.{entered, cited}
 use denote.Triple.Walked.{says, onExit, Stays, stay-none, stay-slice, stay-none-slice, walkOf, goes-none, goes-slice, goes-none-slice, Walks, ends-at, walked, walk-meets}
 use denote.Exit.{yes}
-use Rattle.cesr.specs.declared.primitive.Said.{Said}
-use Rattle.registry_state.specs.declared.state.RegistryState.{RegistryState}
-use Rattle.registry_state_credential.specs.declared.state.CredentialState.{CredentialState}
+use Rattle.cesr.specs.declared.Said.{Said}
+use Rattle.registry_state.specs.declared.RegistryState.{RegistryState}
+use Rattle.registry_state_credential.specs.declared.CredentialState.{CredentialState}
 use Rattle.ledger_step.specs.Ledgers.{Ledger, heldOf, lentLedger, sound}
 use Rattle.ledger_step.specs.Steps.{requestOf, effect, stepOf}
 use Rattle.ledger_step.proofs.Share as share
 use Rattle.ledger_step.proofs.Relend as again
 use Rattle.ledger_rows.specs.Rows.{rowAt, findAt}
 use Rattle.ledger_registries.specs.Registries.{noHeld, blank, findRegistry}
-use Rattle.ledger_asked.specs.declared.call.Named.{Named}
-use Rattle.ledger_stores.specs.declared.call.Next.{Next}
+use Rattle.ledger_asked.specs.declared.Named.{Named}
+use Rattle.ledger_stores.specs.declared.Next.{Next}
 use Rattle.ledger_asked.specs.Names.{headNamed}
 use Rattle.ledger_stores.specs.Effects.{effectNamed, Leaves}
-use Rattle.ledger_stores.specs.declared.call.Applied.{Applied}
+use Rattle.ledger_stores.specs.declared.Applied.{Applied}
 use Rattle.ledger_stores.specs.Applies.{appliedOf, lent, Stores}
 use Rattle.ledger_stores.proofs.Reached.{Done, reached}
-use Rattle.cesr.proofs.primitive.Said as S
-use Rattle.cesr.proofs.primitive.Said.Laws as S′
-use Rattle.registry_state.proofs.state.RegistryState as G
-use Rattle.registry_state.proofs.state.RegistryState.Laws as G′
-use Rattle.registry_state_credential.proofs.state.CredentialState as T
-use Rattle.registry_state_credential.proofs.state.CredentialState.Laws as T′
-use Rattle.ledger_asked.proofs.call.Named as N
-use Rattle.ledger_asked.proofs.call.Named.Laws as N′
-use Rattle.ledger_stores.proofs.call.Next as X
-use Rattle.ledger_stores.proofs.call.Next.Laws as X′
-use Rattle.ledger_stores.proofs.call.Applied as A₀
-use Rattle.ledger_stores.proofs.call.Applied.Laws as A′
+use Rattle.cesr.proofs.Said as S
+use Rattle.cesr.proofs.Said.Laws as S′
+use Rattle.registry_state.proofs.RegistryState as G
+use Rattle.registry_state.proofs.RegistryState.Laws as G′
+use Rattle.registry_state_credential.proofs.CredentialState as T
+use Rattle.registry_state_credential.proofs.CredentialState.Laws as T′
+use Rattle.ledger_asked.proofs.Named as N
+use Rattle.ledger_asked.proofs.Named.Laws as N′
+use Rattle.ledger_stores.proofs.Next as X
+use Rattle.ledger_stores.proofs.Next.Laws as X′
+use Rattle.ledger_stores.proofs.Applied as A₀
+use Rattle.ledger_stores.proofs.Applied.Laws as A′
 use Rattle.ledger_check.proofs.check.sound as check
 use Rattle.ledger_check.proofs.check.sound.Symbol as check-def
 use Rattle.ledger_check.proofs.check.sound.Symbol.{name as #check}

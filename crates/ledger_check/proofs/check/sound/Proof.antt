@@ -38,13 +38,13 @@ use denote.Triple.Spec.{Meets, tripleOf}
 use denote.Triple.Table.{entered, cited}
 use denote.Triple.Walked.{says, Stays, stay-none, stay-none-slice, walkOf, goes-none, goes-none-slice, Walks, ends-at, walked, walk-meets}
 use denote.Exit.{yes}
-use Rattle.registry_state.specs.declared.state.RegistryState.{RegistryState}
-use Rattle.registry_state_credential.specs.declared.state.CredentialState.{CredentialState}
+use Rattle.registry_state.specs.declared.RegistryState.{RegistryState}
+use Rattle.registry_state_credential.specs.declared.CredentialState.{CredentialState}
 use Rattle.ledger_step.specs.Ledgers.{heldOf, holds, registryRules, rowRules, lentLedger, sound}
 use Rattle.ledger_step.proofs.SoundParts.{sound-parts}
 use Rattle.ledger_check.specs.RowsHeld.{rowsHeld}
-use Rattle.registry_state.proofs.state.RegistryState as G
-use Rattle.registry_state_credential.proofs.state.CredentialState as T
+use Rattle.registry_state.proofs.RegistryState as G
+use Rattle.registry_state_credential.proofs.CredentialState as T
 use Rattle.ledger_registries_check.proofs.check.registries_sound as first
 use Rattle.ledger_registries_check.proofs.check.registries_sound.Symbol as first-def
 use Rattle.ledger_registries_check.proofs.check.registries_sound.Symbol.{name as #first}

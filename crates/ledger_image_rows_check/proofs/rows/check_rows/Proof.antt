@@ -8,7 +8,7 @@ use borrow.Author.Tests.{eqb-true}
 use lib.Dec.{leb, eqb}
 use lib.ListN.{length}
 use Rattle.laws.proofs.Tests.{and-right}
-use Rattle.cesr.specs.declared.primitive.Said.{Said}
+use Rattle.cesr.specs.declared.Said.{Said}
 use Rattle.ledger_image_rows_check.specs.RowTests.{rowsPass, endsThere, rowsStand}
 use Rattle.ledger_image_rows_check.proofs.rows.check_rows.Statement.{statement}
 use Rattle.ledger_image_rows_check.proofs.rows.check_rows.Tie as tie

@@ -38,22 +38,22 @@ use denote.Triple.Spec.{Meets, tripleOf}
 use denote.Triple.Table.{entered, cited}
 use denote.Triple.Walked.{says, Stays, stay-none, stay-none-slice, walkOf, goes-none, goes-none-slice, Walks, ends-at, walked, walk-meets}
 use denote.Exit.{yes}
-use Rattle.cesr.specs.declared.primitive.Said.{Said}
+use Rattle.cesr.specs.declared.Said.{Said}
 use Rattle.registry_state_credential.specs.CredentialStates.{noCredential}
-use Rattle.registry_state.specs.declared.state.RegistryState.{RegistryState}
-use Rattle.registry_state_credential.specs.declared.state.CredentialState.{CredentialState}
+use Rattle.registry_state.specs.declared.RegistryState.{RegistryState}
+use Rattle.registry_state_credential.specs.declared.CredentialState.{CredentialState}
 use Rattle.ledger_step.specs.Ledgers.{lentLedger, sound, lookUp}
 use Rattle.ledger_rows.specs.Rows.{rowAt, findAt}
 use Rattle.ledger_standing.specs.Lookups.{keyPair, viewLookedUp, lookedUpOf}
-use Rattle.ledger_standing.specs.declared.lookup.LookedUp.{LookedUp as Answered}
+use Rattle.ledger_standing.specs.declared.LookedUp.{LookedUp as Answered}
 use Rattle.ledger_lookup.proofs.Found.{looked-up}
-use Rattle.cesr.proofs.primitive.Said as S
-use Rattle.cesr.proofs.primitive.Said.Laws as S′
-use Rattle.registry_state.proofs.state.RegistryState as G
-use Rattle.registry_state_credential.proofs.state.CredentialState as T
-use Rattle.registry_state_credential.proofs.state.CredentialState.Laws as T′
-use Rattle.ledger_standing.proofs.lookup.LookedUp as P
-use Rattle.ledger_standing.proofs.lookup.LookedUp.Laws as P′
+use Rattle.cesr.proofs.Said as S
+use Rattle.cesr.proofs.Said.Laws as S′
+use Rattle.registry_state.proofs.RegistryState as G
+use Rattle.registry_state_credential.proofs.CredentialState as T
+use Rattle.registry_state_credential.proofs.CredentialState.Laws as T′
+use Rattle.ledger_standing.proofs.LookedUp as P
+use Rattle.ledger_standing.proofs.LookedUp.Laws as P′
 use Rattle.ledger_check.proofs.check.sound as check
 use Rattle.ledger_check.proofs.check.sound.Symbol as check-def
 use Rattle.ledger_check.proofs.check.sound.Symbol.{name as #check}

@@ -43,23 +43,23 @@ use denote.Triple.Spec.{Meets, tripleOf}
 use denote.Triple.Table.{entered, cited}
 use denote.Triple.Walked.{says, onExit, Stays, stay-none, stay-slice, stay-none-slice, walkOf, goes-none, goes-slice, goes-none-slice, Walks, ends-at, walked, walk-meets}
 use denote.Exit.{yes}
-use Rattle.registry_state.specs.declared.state.RegistryState.{RegistryState}
-use Rattle.registry_state_credential.specs.declared.state.CredentialState.{CredentialState}
+use Rattle.registry_state.specs.declared.RegistryState.{RegistryState}
+use Rattle.registry_state_credential.specs.declared.CredentialState.{CredentialState}
 use Rattle.ledger_image.specs.Images.{imageInto, imageNumber}
 use Rattle.ledger_sections.specs.RowImages.{rowsFrom}
 use Rattle.ledger_step.proofs.Relend.{Kept, relends, backs}
 use Rattle.ledger_sections.specs.RegistrySections.{Stored}
-use Rattle.ledger_image_check.specs.declared.image.Checked.{Checked}
+use Rattle.ledger_image_check.specs.declared.Checked.{Checked}
 use Rattle.ledger_image_check.specs.Checks.{viewChecked}
-use Rattle.ledger_read.specs.declared.read.ImageRead.{ImageRead}
+use Rattle.ledger_read.specs.declared.ImageRead.{ImageRead}
 use Rattle.ledger_read.specs.ImageReads.{planOf, answerBy, countsOf, countsAfter, rowsAfter, RegistriesAfter}
 use Rattle.ledger_read.proofs.ImageStored.{Done, done}
-use Rattle.registry_state.proofs.state.RegistryState as G
-use Rattle.registry_state_credential.proofs.state.CredentialState as T
-use Rattle.ledger_image_check.proofs.image.Checked as K
-use Rattle.ledger_image_check.proofs.image.Checked.Laws as K′
-use Rattle.ledger_read.proofs.read.ImageRead as A₀
-use Rattle.ledger_read.proofs.read.ImageRead.Laws as A′
+use Rattle.registry_state.proofs.RegistryState as G
+use Rattle.registry_state_credential.proofs.CredentialState as T
+use Rattle.ledger_image_check.proofs.Checked as K
+use Rattle.ledger_image_check.proofs.Checked.Laws as K′
+use Rattle.ledger_read.proofs.ImageRead as A₀
+use Rattle.ledger_read.proofs.ImageRead.Laws as A′
 use Rattle.ledger_read.proofs.read.planned as plan
 use Rattle.ledger_read.proofs.read.planned.Symbol as plan-def
 use Rattle.ledger_read.proofs.read.planned.Symbol.{name as #plan}

@@ -49,24 +49,24 @@ use denote.Triple.Table.{entered, cited}
 use denote.Triple.Walked.{says, Stays, stay-none, stay-none-slice, walkOf, goes-none, goes-none-slice, Walks, ends-at, walked, walk-meets}
 use denote.Exit.{yes}
 use Rattle.cesr.specs.Primitives.{eqSaid}
-use Rattle.cesr.specs.declared.primitive.Said.{Said}
-use Rattle.registry_state.specs.declared.state.RegistryState.{RegistryState}
+use Rattle.cesr.specs.declared.Said.{Said}
+use Rattle.registry_state.specs.declared.RegistryState.{RegistryState}
 use Rattle.ledger_registries.specs.Registries.{blank, findRegistry}
 use Rattle.ledger_registries.proofs.Find.{Facts, hasId, at-start, at-end, at-hit, at-miss}
 use Rattle.ledger_registries.proofs.Places.{low}
 use Rattle.ledger_step.proofs.Turns.{offset-fits, below, there, here-fits, next-fits, next-is, none-passed, all-passed, none-left, holds-true, fails}
-use Rattle.cesr.proofs.primitive.Said as S
-use Rattle.cesr.proofs.primitive.Said.Laws as S′
-use Rattle.registry_state.proofs.state.RegistryState as T
-use Rattle.registry_state.proofs.state.RegistryState.Laws as T′
+use Rattle.cesr.proofs.Said as S
+use Rattle.cesr.proofs.Said.Laws as S′
+use Rattle.registry_state.proofs.RegistryState as T
+use Rattle.registry_state.proofs.RegistryState.Laws as T′
 use Rattle.ledger_step.proofs.number.lesser as less
 use Rattle.ledger_step.proofs.number.lesser.Symbol as less-def
 use Rattle.ledger_step.proofs.number.lesser.Symbol.{name as #less}
 use Rattle.ledger_step.proofs.number.lesser.Met as less-thm
-use Rattle.cesr.proofs.primitive.Said.same as same
-use Rattle.cesr.proofs.primitive.Said.same.Symbol as same-def
-use Rattle.cesr.proofs.primitive.Said.same.Symbol.{name as #same}
-use Rattle.cesr.proofs.primitive.Said.same.Met as same-thm
+use Rattle.cesr.proofs.Said.same as same
+use Rattle.cesr.proofs.Said.same.Symbol as same-def
+use Rattle.cesr.proofs.Said.same.Symbol.{name as #same}
+use Rattle.cesr.proofs.Said.same.Met as same-thm
 use Rattle.ledger_registries.proofs.registries.find_registry.Key.{name as #me}
 use Rattle.ledger_registries.proofs.registries.find_registry as me
 use Rattle.ledger_registries.proofs.registries.find_registry.Statement as stated
@@ -293,4 +293,4 @@ find-registry-spec 𝓤 H 𝓜 𝓖 𝓡 =
     (tables 𝓤 H 𝓜 𝓡 code.env .C) (tables 𝓤 H 𝓜 𝓡 code.env .Λ) #me code.function (code.unfolded 𝓤 H 𝓜 𝓡)
     (me-meets 𝓤 H (𝓖 .A) (givenOf 𝓤 H 𝓜 𝓖) (𝓜 .mem) (𝓡 .run) (tablesOf 𝓤 H 𝓜 (tables 𝓤 H 𝓜 𝓡 code.env))
     (cited 𝓤 H (Lesser 𝓤 H (𝓖 .A) (𝓜 .mem) (𝓡 .run)) 𝓜 𝓡 code.env #less less-def.routine code.calls-ledger-step·number·lesser (less-thm.met 𝓤 H 𝓜 𝓖 𝓡))
-    (cited 𝓤 H (Same 𝓤 H (𝓖 .A) (𝓜 .mem) (𝓡 .run)) 𝓜 𝓡 code.env #same same-def.routine code.calls-cesr·primitive·Said·same (same-thm.met 𝓤 H 𝓜 𝓖 𝓡)))
+    (cited 𝓤 H (Same 𝓤 H (𝓖 .A) (𝓜 .mem) (𝓡 .run)) 𝓜 𝓡 code.env #same same-def.routine code.calls-cesr·Said·same (same-thm.met 𝓤 H 𝓜 𝓖 𝓡)))

@@ -18,9 +18,9 @@ use denote.Struct.Laws as LL
 use denote.Triple.Entry.{Vals, onEntry}
 use denote.Triple.Spec.{Meets, tripleOf}
 use denote.Exit.{yes}
-use Rattle.registry_state.specs.declared.state.RegistryState.{RegistryState}
-use Rattle.registry_state.proofs.state.RegistryState as T
-use Rattle.registry_state.proofs.state.RegistryState.Laws as T′
+use Rattle.registry_state.specs.declared.RegistryState.{RegistryState}
+use Rattle.registry_state.proofs.RegistryState as T
+use Rattle.registry_state.proofs.RegistryState.Laws as T′
 use lib.Dec.{ltb→lt, nltb→le}
 use lib.ListN.{length, getD}
 use mir.Syntax.{Ty, named, imm, w64, tyInt, tyBool, tyPtr, tyRef}
@@ -47,10 +47,10 @@ use Rattle.registry_state.specs.States.{viewRegistry, noRegistry}
 use Rattle.ledger_step.specs.Ledgers.{heldOf}
 use Rattle.ledger_registries.specs.Registries.{blank, noHeld}
 use Rattle.ledger_registries.proofs.RegistryViews.{read-there, read-past}
-use Rattle.registry_state.proofs.state.RegistryState.none as none
-use Rattle.registry_state.proofs.state.RegistryState.none.Symbol as none-def
-use Rattle.registry_state.proofs.state.RegistryState.none.Symbol.{name as #none}
-use Rattle.registry_state.proofs.state.RegistryState.none.Met as none-thm
+use Rattle.registry_state.proofs.RegistryState.none as none
+use Rattle.registry_state.proofs.RegistryState.none.Symbol as none-def
+use Rattle.registry_state.proofs.RegistryState.none.Symbol.{name as #none}
+use Rattle.registry_state.proofs.RegistryState.none.Met as none-thm
 use Rattle.ledger_step.proofs.Turns.{offset-fits}
 use Rattle.ledger_registries.proofs.Places.{low}
 use Rattle.ledger_registries.proofs.registries.read_registry.Key.{name as #me}
@@ -176,4 +176,4 @@ read-registry-spec 𝓤 H 𝓜 𝓖 𝓡 =
     entered 𝓤 H (tripleOf 𝓤 H (𝓖 .A) me.signature (me.spec 𝓤 H (𝓖 .A) (𝓜 .mem) (𝓡 .run)))
     (tables 𝓤 H 𝓜 𝓡 code.env .C) (tables 𝓤 H 𝓜 𝓡 code.env .Λ) #me code.function (code.unfolded 𝓤 H 𝓜 𝓡)
     (me-meets 𝓤 H (𝓖 .A) (givenOf 𝓤 H 𝓜 𝓖) (𝓜 .mem) (𝓡 .run) (tablesOf 𝓤 H 𝓜 (tables 𝓤 H 𝓜 𝓡 code.env))
-    (cited 𝓤 H (None 𝓤 H (𝓖 .A) (𝓜 .mem) (𝓡 .run)) 𝓜 𝓡 code.env #none none-def.routine code.calls-registry-state·state·RegistryState·none (none-thm.met 𝓤 H 𝓜 𝓖 𝓡)))
+    (cited 𝓤 H (None 𝓤 H (𝓖 .A) (𝓜 .mem) (𝓡 .run)) 𝓜 𝓡 code.env #none none-def.routine code.calls-registry-state·RegistryState·none (none-thm.met 𝓤 H 𝓜 𝓖 𝓡)))

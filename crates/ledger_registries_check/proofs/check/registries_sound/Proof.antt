@@ -46,19 +46,19 @@ use denote.Triple.Spec.{Meets, tripleOf}
 use denote.Triple.Table.{entered, cited}
 use denote.Triple.Walked.{says, Stays, stay-none, stay-none-slice, walkOf, goes-none, goes-none-slice, Walks, ends-at, walked, walk-meets}
 use denote.Exit.{yes}
-use Rattle.cesr.specs.declared.primitive.Said.{Said}
+use Rattle.cesr.specs.declared.Said.{Said}
 use Rattle.registry_state.specs.States.{viewRegistry, wellRegistry}
-use Rattle.registry_state.specs.declared.state.RegistryState.{RegistryState}
+use Rattle.registry_state.specs.declared.RegistryState.{RegistryState}
 use Rattle.registry_laws.specs.ReadingRules.{soundRegistry}
 use Rattle.ledger_step.specs.Ledgers.{heldOf, holds, registryRules}
 use Rattle.ledger_registries.specs.Registries.{blank, findRegistry}
 use Rattle.ledger_step.proofs.Turns.{offset-fits, below, there, here-fits, next-fits, next-is, none-passed, all-passed, none-left, fails}
 use Rattle.ledger_registries.proofs.Places.{low}
 use Rattle.ledger_registries_check.proofs.Sound.{Facts, passesAt, enough, wrong-size, at-start, at-end, at-bad, at-good}
-use Rattle.cesr.proofs.primitive.Said as S
-use Rattle.cesr.proofs.primitive.Said.Laws as S′
-use Rattle.registry_state.proofs.state.RegistryState as T
-use Rattle.registry_state.proofs.state.RegistryState.Laws as T′
+use Rattle.cesr.proofs.Said as S
+use Rattle.cesr.proofs.Said.Laws as S′
+use Rattle.registry_state.proofs.RegistryState as T
+use Rattle.registry_state.proofs.RegistryState.Laws as T′
 use Rattle.ledger_registry_rules.proofs.rules.right_size as size
 use Rattle.ledger_registry_rules.proofs.rules.right_size.Symbol as size-def
 use Rattle.ledger_registry_rules.proofs.rules.right_size.Symbol.{name as #size}

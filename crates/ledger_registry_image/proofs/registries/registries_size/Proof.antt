@@ -48,12 +48,12 @@ use denote.Triple.Table.{entered, cited}
 use denote.Triple.Walked.{says, Stays, stay-none, stay-none-slice, walkOf, goes-none, goes-none-slice, Walks, ends-at, walked, walk-meets}
 use denote.Exit.{yes}
 use Rattle.registry_state.specs.States.{viewRegistry, registryBytes}
-use Rattle.registry_state.specs.declared.state.RegistryState.{RegistryState}
+use Rattle.registry_state.specs.declared.RegistryState.{RegistryState}
 use Rattle.ledger_sections.specs.RegistrySections.{sectionOf}
 use Rattle.ledger_sections.proofs.SectionSizes.{blank, sized, sized-none, sized-all, used, Facts, at-start, few-enough, at-turn, end-fits}
 use Rattle.ledger_step.proofs.Turns.{offset-fits, below, there, next-fits, next-is, none-passed, all-passed, last-left}
-use Rattle.registry_state.proofs.state.RegistryState as T
-use Rattle.registry_state.proofs.state.RegistryState.Laws as T′
+use Rattle.registry_state.proofs.RegistryState as T
+use Rattle.registry_state.proofs.RegistryState.Laws as T′
 use Rattle.ledger_sections.proofs.registries.section_count as cnt
 use Rattle.ledger_sections.proofs.registries.section_count.Symbol as cnt-def
 use Rattle.ledger_sections.proofs.registries.section_count.Symbol.{name as #cnt}

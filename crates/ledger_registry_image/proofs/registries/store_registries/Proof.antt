@@ -51,21 +51,21 @@ use denote.Triple.Table.{entered, cited}
 use denote.Triple.Walked.{says, Stays, stay-none, stay-slice, stay-none-slice, walkOf, goes-none, goes-slice, goes-none-slice, Walks, ends-at, walked, walk-meets}
 use denote.Exit.{yes}
 use Rattle.codec_cursor.specs.Readers.{placed}
-use Rattle.codec_cursor.specs.declared.cursor.Cursor.{Cursor}
+use Rattle.codec_cursor.specs.declared.Cursor.{Cursor}
 use Rattle.registry_state.specs.States.{readRegistry}
-use Rattle.registry_state.specs.declared.state.RegistryRead.{RegistryRead}
-use Rattle.registry_state.specs.declared.state.RegistryState.{RegistryState}
+use Rattle.registry_state.specs.declared.RegistryRead.{RegistryRead}
+use Rattle.registry_state.specs.declared.RegistryState.{RegistryState}
 use Rattle.ledger_step.specs.Ledgers.{heldOf}
 use Rattle.ledger_sections.specs.RegistrySections.{heldRead, Stored}
 use Rattle.ledger_sections.proofs.SectionSizes.{blank}
 use Rattle.ledger_sections.proofs.SectionReads.{after, after-none, after-more, Facts, at-start, at-turn, at-end}
 use Rattle.ledger_step.proofs.Turns.{offset-fits, below, there, next-fits, next-is, suc-is, none-passed, last-left}
-use Rattle.codec_cursor.proofs.cursor.Cursor as K
-use Rattle.codec_cursor.proofs.cursor.Cursor.Laws as K′
-use Rattle.registry_state.proofs.state.RegistryRead as R
-use Rattle.registry_state.proofs.state.RegistryRead.Laws as R′
-use Rattle.registry_state.proofs.state.RegistryState as T
-use Rattle.registry_state.proofs.state.RegistryState.Laws as T′
+use Rattle.codec_cursor.proofs.Cursor as K
+use Rattle.codec_cursor.proofs.Cursor.Laws as K′
+use Rattle.registry_state.proofs.RegistryRead as R
+use Rattle.registry_state.proofs.RegistryRead.Laws as R′
+use Rattle.registry_state.proofs.RegistryState as T
+use Rattle.registry_state.proofs.RegistryState.Laws as T′
 use Rattle.ledger_step.proofs.number.lesser as less
 use Rattle.ledger_step.proofs.number.lesser.Symbol as less-def
 use Rattle.ledger_step.proofs.number.lesser.Symbol.{name as #less}

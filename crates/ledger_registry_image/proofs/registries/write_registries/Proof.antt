@@ -53,14 +53,14 @@ use denote.Triple.Walked.{says, Stays, stay-none, stay-slice, stay-none-slice, w
 use denote.Exit.{yes}
 use Rattle.laws.specs.Room.{put}
 use Rattle.registry_state.specs.States.{viewRegistry, registryBytes}
-use Rattle.registry_state.specs.declared.state.RegistryState.{RegistryState}
+use Rattle.registry_state.specs.declared.RegistryState.{RegistryState}
 use Rattle.ledger_sections.specs.RegistrySections.{sectionOf}
 use Rattle.ledger_step.proofs.Relend.{Kept, relends, backs}
 use Rattle.ledger_sections.proofs.SectionSizes.{blank, sized, sized-none, sized-more}
 use Rattle.ledger_sections.proofs.SectionWrites.{following, few-following, headed, wrote, wrote-none, wrote-long, wrote-more, next-room, wrote-all}
 use Rattle.ledger_step.proofs.Turns.{offset-fits, below, there, next-fits, next-is, suc-is, less, none-passed, all-passed, last-left}
-use Rattle.registry_state.proofs.state.RegistryState as T
-use Rattle.registry_state.proofs.state.RegistryState.Laws as T′
+use Rattle.registry_state.proofs.RegistryState as T
+use Rattle.registry_state.proofs.RegistryState.Laws as T′
 use Rattle.ledger_registry_image.proofs.registries.registries_size as size
 use Rattle.ledger_registry_image.proofs.registries.registries_size.Symbol as size-def
 use Rattle.ledger_registry_image.proofs.registries.registries_size.Symbol.{name as #size}

@@ -7,7 +7,7 @@ use borrow.Author.Needs.{needs}
 use lib.ListN.{length, getD, take}
 use Rattle.laws.proofs.Views.{length-mapped}
 use Rattle.events.specs.Members.{view, noPrefix, at, has}
-use Rattle.events.proofs.Members.{view-at, has-step}
+use Rattle.events.proofs.MemberLaws.{view-at, has-step}
 use Rattle.registry_state.specs.States.{isBacker}
 use Rattle.ledger_registry_rules.proofs.InOrder.{backer-fails, backer-once, backer-lettered, backers-pass}
 use Rattle.ledger_registry_rules.proofs.rules.backers_sound.Statement.{statement}

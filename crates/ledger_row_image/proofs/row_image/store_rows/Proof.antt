@@ -48,21 +48,21 @@ use denote.Triple.Spec.{Meets, tripleOf}
 use denote.Triple.Table.{entered, cited}
 use denote.Triple.Walked.{says, Stays, stay-none, stay-slice, stay-none-slice, walkOf, goes-none, goes-slice, goes-none-slice, Walks, ends-at, walked, walk-meets}
 use denote.Exit.{yes}
-use Rattle.codec_cursor.specs.declared.cursor.Cursor.{Cursor}
+use Rattle.codec_cursor.specs.declared.Cursor.{Cursor}
 use Rattle.codec_cursor.specs.Readers.{placed}
-use Rattle.registry_state_credential.specs.declared.state.CredentialState.{CredentialState}
-use Rattle.registry_state_credential.specs.declared.state.CredentialRead.{CredentialRead}
+use Rattle.registry_state_credential.specs.declared.CredentialState.{CredentialState}
+use Rattle.registry_state_credential.specs.declared.CredentialRead.{CredentialRead}
 use Rattle.registry_state_credential.specs.CredentialStates.{readCredential, viewCredentialRead}
-use Rattle.codec_cursor.proofs.cursor.Cursor as P
-use Rattle.codec_cursor.proofs.cursor.Cursor.Laws as P′
-use Rattle.registry_state_credential.proofs.state.CredentialRead as R
-use Rattle.registry_state_credential.proofs.state.CredentialRead.Laws as R′
-use Rattle.registry_state_credential.proofs.state.CredentialState as T
-use Rattle.registry_state_credential.proofs.state.CredentialState.Laws as T′
-use Rattle.registry_state_credential.proofs.state.CredentialState.read as rd
-use Rattle.registry_state_credential.proofs.state.CredentialState.read.Symbol as rd-def
-use Rattle.registry_state_credential.proofs.state.CredentialState.read.Symbol.{name as #read}
-use Rattle.registry_state_credential.proofs.state.CredentialState.read.Met as rd-thm
+use Rattle.codec_cursor.proofs.Cursor as P
+use Rattle.codec_cursor.proofs.Cursor.Laws as P′
+use Rattle.registry_state_credential.proofs.CredentialRead as R
+use Rattle.registry_state_credential.proofs.CredentialRead.Laws as R′
+use Rattle.registry_state_credential.proofs.CredentialState as T
+use Rattle.registry_state_credential.proofs.CredentialState.Laws as T′
+use Rattle.registry_state_credential.proofs.CredentialState.read as rd
+use Rattle.registry_state_credential.proofs.CredentialState.read.Symbol as rd-def
+use Rattle.registry_state_credential.proofs.CredentialState.read.Symbol.{name as #read}
+use Rattle.registry_state_credential.proofs.CredentialState.read.Met as rd-thm
 use Rattle.ledger_step.proofs.Relend.{Kept, relends, backs}
 use Rattle.ledger_step.proofs.Turns.{all-in, less, suc-is, below, here-fits, next-fits, next-is, none-passed, all-passed, none-left}
 use Rattle.ledger_rows.proofs.rows.store_row as st
@@ -314,5 +314,5 @@ store-rows-spec 𝓤 H 𝓜 𝓖 𝓡 =
     entered 𝓤 H (tripleOf 𝓤 H (𝓖 .A) me.signature (me.spec 𝓤 H (𝓖 .A) (𝓜 .mem) (𝓡 .run)))
     (tables 𝓤 H 𝓜 𝓡 code.env .C) (tables 𝓤 H 𝓜 𝓡 code.env .Λ) #me code.function (code.unfolded 𝓤 H 𝓜 𝓡)
     (me-meets 𝓤 H (𝓖 .A) (givenOf 𝓤 H 𝓜 𝓖) (𝓜 .mem) (𝓡 .run) (tablesOf 𝓤 H 𝓜 (tables 𝓤 H 𝓜 𝓡 code.env))
-    (cited 𝓤 H (ReadOne 𝓤 H (𝓖 .A) (𝓜 .mem) (𝓡 .run)) 𝓜 𝓡 code.env #read rd-def.routine code.calls-registry-state-credential·state·CredentialState·read (rd-thm.met 𝓤 H 𝓜 𝓖 𝓡))
+    (cited 𝓤 H (ReadOne 𝓤 H (𝓖 .A) (𝓜 .mem) (𝓡 .run)) 𝓜 𝓡 code.env #read rd-def.routine code.calls-registry-state-credential·CredentialState·read (rd-thm.met 𝓤 H 𝓜 𝓖 𝓡))
     (cited 𝓤 H (StoreRow 𝓤 H (𝓖 .A) (𝓜 .mem) (𝓡 .run)) 𝓜 𝓡 code.env #store st-def.routine code.calls-ledger-rows·rows·store-row (st-thm.met 𝓤 H 𝓜 𝓖 𝓡)))

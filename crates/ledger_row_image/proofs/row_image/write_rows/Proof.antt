@@ -51,14 +51,14 @@ use denote.Triple.Walked.{says, Stays, stay-none, stay-slice, stay-none-slice, w
 use denote.Exit.{yes}
 use Rattle.laws.specs.Number.{digits}
 use Rattle.laws.specs.Room.{room, put}
-use Rattle.registry_state_credential.specs.declared.state.CredentialState.{CredentialState}
+use Rattle.registry_state_credential.specs.declared.CredentialState.{CredentialState}
 use Rattle.registry_state_credential.specs.CredentialStates.{noCredential, credentialBytes}
-use Rattle.registry_state_credential.proofs.state.CredentialState as T
-use Rattle.registry_state_credential.proofs.state.CredentialState.Laws as T′
-use Rattle.registry_state_credential.proofs.state.CredentialState.write as wr
-use Rattle.registry_state_credential.proofs.state.CredentialState.write.Symbol as wr-def
-use Rattle.registry_state_credential.proofs.state.CredentialState.write.Symbol.{name as #write}
-use Rattle.registry_state_credential.proofs.state.CredentialState.write.Met as wr-thm
+use Rattle.registry_state_credential.proofs.CredentialState as T
+use Rattle.registry_state_credential.proofs.CredentialState.Laws as T′
+use Rattle.registry_state_credential.proofs.CredentialState.write as wr
+use Rattle.registry_state_credential.proofs.CredentialState.write.Symbol as wr-def
+use Rattle.registry_state_credential.proofs.CredentialState.write.Symbol.{name as #write}
+use Rattle.registry_state_credential.proofs.CredentialState.write.Met as wr-thm
 use Rattle.ledger_image.proofs.image.write_count as co
 use Rattle.ledger_image.proofs.image.write_count.Symbol as co-def
 use Rattle.ledger_image.proofs.image.write_count.Symbol.{name as #count}
@@ -359,4 +359,4 @@ write-rows-spec 𝓤 H 𝓜 𝓖 𝓡 =
     (me-meets 𝓤 H (𝓖 .A) (givenOf 𝓤 H 𝓜 𝓖) (𝓜 .mem) (𝓡 .run) (tablesOf 𝓤 H 𝓜 (tables 𝓤 H 𝓜 𝓡 code.env))
     (cited 𝓤 H (SectionFits 𝓤 H (𝓖 .A) (𝓜 .mem) (𝓡 .run)) 𝓜 𝓡 code.env #fits fi-def.routine code.calls-ledger-sections·rows·section-fits (fi-thm.met 𝓤 H 𝓜 𝓖 𝓡))
     (cited 𝓤 H (WriteCount 𝓤 H (𝓖 .A) (𝓜 .mem) (𝓡 .run)) 𝓜 𝓡 code.env #count co-def.routine code.calls-ledger-image·image·write-count (co-thm.met 𝓤 H 𝓜 𝓖 𝓡))
-    (cited 𝓤 H (WriteOne 𝓤 H (𝓖 .A) (𝓜 .mem) (𝓡 .run)) 𝓜 𝓡 code.env #write wr-def.routine code.calls-registry-state-credential·state·CredentialState·write (wr-thm.met 𝓤 H 𝓜 𝓖 𝓡)))
+    (cited 𝓤 H (WriteOne 𝓤 H (𝓖 .A) (𝓜 .mem) (𝓡 .run)) 𝓜 𝓡 code.env #write wr-def.routine code.calls-registry-state-credential·CredentialState·write (wr-thm.met 𝓤 H 𝓜 𝓖 𝓡)))

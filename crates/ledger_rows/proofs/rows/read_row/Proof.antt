@@ -18,9 +18,9 @@ use denote.Struct.Laws as LL
 use denote.Triple.Entry.{Vals, onEntry}
 use denote.Triple.Spec.{Meets, tripleOf}
 use denote.Exit.{yes}
-use Rattle.registry_state_credential.specs.declared.state.CredentialState.{CredentialState}
-use Rattle.registry_state_credential.proofs.state.CredentialState as T
-use Rattle.registry_state_credential.proofs.state.CredentialState.Laws as T′
+use Rattle.registry_state_credential.specs.declared.CredentialState.{CredentialState}
+use Rattle.registry_state_credential.proofs.CredentialState as T
+use Rattle.registry_state_credential.proofs.CredentialState.Laws as T′
 use lib.Dec.{ltb, ltb→lt, nltb→le}
 use lib.ListN.{length, getD, List·getD-eq-default}
 use mir.Syntax.{Ty, named, imm, w64, tyInt, tyBool, tyPtr, tyRef}
@@ -44,10 +44,10 @@ use denote.Triple.Clauses.{ensured, lasts}
 use denote.Triple.Table.{entered, cited}
 use denote.Triple.Walked.{says, Stays, stay-none, stay-none-slice, walkOf, goes-none, goes-none-slice, Walks, ends-at, walked, walk-meets}
 use Rattle.registry_state_credential.specs.CredentialStates.{noCredential}
-use Rattle.registry_state_credential.proofs.state.CredentialState.none as none
-use Rattle.registry_state_credential.proofs.state.CredentialState.none.Symbol as none-def
-use Rattle.registry_state_credential.proofs.state.CredentialState.none.Symbol.{name as #none}
-use Rattle.registry_state_credential.proofs.state.CredentialState.none.Met as none-thm
+use Rattle.registry_state_credential.proofs.CredentialState.none as none
+use Rattle.registry_state_credential.proofs.CredentialState.none.Symbol as none-def
+use Rattle.registry_state_credential.proofs.CredentialState.none.Symbol.{name as #none}
+use Rattle.registry_state_credential.proofs.CredentialState.none.Met as none-thm
 use Rattle.ledger_step.proofs.Turns.{offset-fits}
 use Rattle.ledger_rows.proofs.rows.read_row.Key.{name as #me}
 use Rattle.ledger_rows.proofs.rows.read_row as me
@@ -166,4 +166,4 @@ read-row-spec 𝓤 H 𝓜 𝓖 𝓡 =
     entered 𝓤 H (tripleOf 𝓤 H (𝓖 .A) me.signature (me.spec 𝓤 H (𝓖 .A) (𝓜 .mem) (𝓡 .run)))
     (tables 𝓤 H 𝓜 𝓡 code.env .C) (tables 𝓤 H 𝓜 𝓡 code.env .Λ) #me code.function (code.unfolded 𝓤 H 𝓜 𝓡)
     (me-meets 𝓤 H (𝓖 .A) (givenOf 𝓤 H 𝓜 𝓖) (𝓜 .mem) (𝓡 .run) (tablesOf 𝓤 H 𝓜 (tables 𝓤 H 𝓜 𝓡 code.env))
-    (cited 𝓤 H (None 𝓤 H (𝓖 .A) (𝓜 .mem) (𝓡 .run)) 𝓜 𝓡 code.env #none none-def.routine code.calls-registry-state-credential·state·CredentialState·none (none-thm.met 𝓤 H 𝓜 𝓖 𝓡)))
+    (cited 𝓤 H (None 𝓤 H (𝓖 .A) (𝓜 .mem) (𝓡 .run)) 𝓜 𝓡 code.env #none none-def.routine code.calls-registry-state-credential·CredentialState·none (none-thm.met 𝓤 H 𝓜 𝓖 𝓡)))

@@ -46,9 +46,9 @@ use denote.Triple.Spec.{Meets, tripleOf}
 use denote.Triple.Table.{entered, cited}
 use denote.Triple.Walked.{says, Stays, stay-none, stay-none-slice, walkOf, goes-none, goes-none-slice, Walks, ends-at, walked, walk-meets}
 use denote.Exit.{yes}
-use Rattle.cesr.specs.declared.primitive.Said.{Said}
+use Rattle.cesr.specs.declared.Said.{Said}
 use Rattle.registry_state_credential.specs.CredentialStates.{noCredential, wellCredential}
-use Rattle.registry_state_credential.specs.declared.state.CredentialState.{CredentialState}
+use Rattle.registry_state_credential.specs.declared.CredentialState.{CredentialState}
 use Rattle.ledger_step.specs.Ledgers.{zeroOrOne}
 use Rattle.ledger_step.proofs.Turns.{offset-fits, below, there, here-fits, next-fits, next-is, suc-is, none-passed, all-passed, none-left, fails}
 use Rattle.ledger_rows.specs.Rows.{rowAt, findAt}
@@ -56,10 +56,10 @@ use Rattle.ledger_row_rules.specs.Marking.{noMarks, marking}
 use Rattle.ledger_row_rules.specs.declared.marks.Marks.{Marks}
 use Rattle.ledger_row_rules.proofs.Marked.{marksOf}
 use Rattle.ledger_rows_check.proofs.Sound.{Facts, passesAt, passes-same, answer, enough, wrong-size, at-start, at-end, at-bad, at-good}
-use Rattle.cesr.proofs.primitive.Said as S
-use Rattle.cesr.proofs.primitive.Said.Laws as S′
-use Rattle.registry_state_credential.proofs.state.CredentialState as T
-use Rattle.registry_state_credential.proofs.state.CredentialState.Laws as T′
+use Rattle.cesr.proofs.Said as S
+use Rattle.cesr.proofs.Said.Laws as S′
+use Rattle.registry_state_credential.proofs.CredentialState as T
+use Rattle.registry_state_credential.proofs.CredentialState.Laws as T′
 use Rattle.ledger_row_rules.proofs.marks.Marks as K
 use Rattle.ledger_row_rules.proofs.marks.Marks.Laws as K′
 use Rattle.ledger_row_rules.proofs.rules.right_size as size

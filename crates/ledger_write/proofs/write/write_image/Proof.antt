@@ -46,21 +46,21 @@ use denote.Triple.Table.{entered, cited}
 use denote.Triple.Walked.{says, Stays, stay-none, stay-slice, stay-none-slice, walkOf, goes-none, goes-slice, goes-none-slice, Walks, ends-at, walked, walk-meets}
 use denote.Exit.{yes}
 use borrow.Rule.Slice.PartMut.{putMid, startAt}
-use Rattle.registry_state.specs.declared.state.RegistryState.{RegistryState}
-use Rattle.registry_state_credential.specs.declared.state.CredentialState.{CredentialState}
+use Rattle.registry_state.specs.declared.RegistryState.{RegistryState}
+use Rattle.registry_state_credential.specs.declared.CredentialState.{CredentialState}
 use Rattle.ledger_step.specs.Ledgers.{lentLedger, sound}
 use Rattle.ledger_image.specs.Images.{writtenOf}
 use Rattle.ledger_step.proofs.Relend.{Kept, relends, backs}
 use Rattle.ledger_step.proofs.Turns.{fails}
 use Rattle.ledger_sections.specs.RowImages.{writtenRows}
 use Rattle.ledger_written.specs.Writes.{viewWritten}
-use Rattle.ledger_written.specs.declared.answer.Written.{Written as Answer}
+use Rattle.ledger_written.specs.declared.Written.{Written as Answer}
 use Rattle.ledger_write.proofs.PartLent.{KeptPart, part-lends, part-backs, byte-start}
 use Rattle.ledger_written.proofs.ImageWrites.{first, answer, headed, rest, part, last, refused-all, written-all, first-fits, headed-long, part-long, last-long}
-use Rattle.registry_state.proofs.state.RegistryState as G
-use Rattle.registry_state_credential.proofs.state.CredentialState as T
-use Rattle.ledger_written.proofs.answer.Written as P
-use Rattle.ledger_written.proofs.answer.Written.Laws as P′
+use Rattle.registry_state.proofs.RegistryState as G
+use Rattle.registry_state_credential.proofs.CredentialState as T
+use Rattle.ledger_written.proofs.Written as P
+use Rattle.ledger_written.proofs.Written.Laws as P′
 use Rattle.ledger_check.proofs.check.sound as check
 use Rattle.ledger_check.proofs.check.sound.Symbol as check-def
 use Rattle.ledger_check.proofs.check.sound.Symbol.{name as #check}

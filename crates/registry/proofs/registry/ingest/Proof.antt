@@ -8,7 +8,7 @@ use Rattle.registry_state.specs.States.{viewRegistry}
 use Rattle.registry_wire.specs.Attempts.{viewAttempt}
 use Rattle.registry_authentication.proofs.AnchorUse.{decoded-good, anchored-parts}
 use Rattle.registry_answer.specs.Answers.{accepts}
-use Rattle.registry_inception.specs.declared.registry.RegistryOutcome.{RegistryOutcome}
+use Rattle.registry_inception.specs.declared.RegistryOutcome.{RegistryOutcome}
 use Rattle.registry.specs.RegistryFolds.{Ingested}
 use Rattle.registry.proofs.RegistryLaws.{Judged, ingest-judged, ingest-malformed, refused-ingested, other-kind}
 use borrow.Author.Needs.{needs}

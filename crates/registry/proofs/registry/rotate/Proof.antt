@@ -3,7 +3,7 @@ use mathlib.Core.Path.{_≡_, refl, sym, ap, _∙_}
 use mathlib.Core.Bool.{true}
 use Rattle.cesr.specs.Primitives.{saidAt}
 use Rattle.events.specs.Members.{view}
-use Rattle.events_tel.specs.declared.tel.Kind.{Kind}
+use Rattle.events_tel.specs.declared.Kind.{Kind}
 use Rattle.events_tel.specs.TelEvents.{membersIn, eventAs}
 use Rattle.registry_state.specs.States.{viewRegistry}
 use Rattle.registry_wire.specs.Attempts.{viewAttempt}

@@ -3,7 +3,7 @@ use native.Mathlib.Omega.{arith}
 use lib.ListN.{length}
 use Rattle.events.specs.Members.{view, checkDeltas, checkCurrent}
 use Rattle.registry_answer.specs.Answers.{acceptIf, backerSet, orElse, firstOf}
-use Rattle.registry_error.specs.declared.error.RegistryRejection.the-variants.{TooManyBackers}
+use Rattle.registry_error.specs.declared.RegistryRejection.the-variants.{TooManyBackers}
 use Rattle.registry_backing.specs.Backings.{enoughReceipts}
 use Rattle.registry_inception.specs.InceptionFolds.{thresholdFits}
 use Rattle.registry.specs.RegistryFolds.{vrtBackers}
@@ -13,7 +13,7 @@ use Rattle.registry_signatures.specs.SignatureSections.{signaturesIn}
 use Rattle.registry_members.specs.Updated.{updatedMembers}
 use Rattle.registry.proofs.RegistryLaws.{limit-chain, limit-list}
 use Rattle.laws.proofs.Views.{length-mapped}
-use Rattle.events.proofs.Members.{view-size}
+use Rattle.events.proofs.MemberLaws.{view-size}
 use borrow.Author.Needs.{needs}
 use Rattle.events_tel.specs.TelEvents.{membersIn}
 use Rattle.registry.proofs.registry.vrt_backers.Statement.{statement}

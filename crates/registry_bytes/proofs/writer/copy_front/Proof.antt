@@ -12,7 +12,7 @@ use lib.Seq.{sets}
 use Rattle.laws.proofs.Room.{stored, refused, put-sets}
 use Rattle.cesr.specs.Primitives.{readMatter}
 use Rattle.events_tel.specs.Configs.{viewConfigs}
-use Rattle.events_tel.proofs.Configs.{view-size}
+use Rattle.events_tel.proofs.ConfigLaws.{view-size}
 use Rattle.codec.specs.Layout.{sectionBytes, byteBytes}
 use Rattle.registry_head.specs.HeadBytes.{headBytes}
 use Rattle.registry_head.proofs.HeadWrites.{length-head}

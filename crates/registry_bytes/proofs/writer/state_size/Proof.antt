@@ -4,7 +4,7 @@ use native.Mathlib.Omega.{arith}
 use borrow.Author.Needs.{needs}
 use lib.ListN.{length}
 use Rattle.events_tel.specs.Configs.{viewConfigs}
-use Rattle.events_tel.proofs.Configs.{view-size}
+use Rattle.events_tel.proofs.ConfigLaws.{view-size}
 use Rattle.registry_bytes.proofs.writer.state_size.Statement.{statement}
 use Rattle.registry_bytes.proofs.writer.state_size.Tie as tie
 

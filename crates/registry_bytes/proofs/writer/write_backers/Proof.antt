@@ -6,7 +6,7 @@ use lib.ListN.{length, take, length-set}
 use lib.Seq.{sets, take-all}
 use Rattle.laws.proofs.Views.{length-mapped}
 use Rattle.events.specs.Members.{view}
-use Rattle.events.proofs.Members.{view-at}
+use Rattle.events.proofs.MemberLaws.{view-at}
 use Rattle.codec.specs.Layout.{joined, sectionBytes, prefixBytes}
 use Rattle.registry_bytes.proofs.StateWrites.{backer-step}
 use Rattle.registry_bytes.proofs.writer.write_backers.Statement.{statement}

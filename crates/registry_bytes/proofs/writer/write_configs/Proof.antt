@@ -5,7 +5,7 @@ use borrow.Author.Needs.{needs}
 use lib.ListN.{length, take, length-set}
 use lib.Seq.{sets, take-all}
 use Rattle.events_tel.specs.Configs.{viewConfigs}
-use Rattle.events_tel.proofs.Configs.{view-size}
+use Rattle.events_tel.proofs.ConfigLaws.{view-size}
 use Rattle.codec.specs.Layout.{joined, sectionBytes, byteBytes}
 use Rattle.registry_bytes.proofs.StateWrites.{config-step}
 use Rattle.registry_bytes.proofs.writer.write_configs.Statement.{statement}

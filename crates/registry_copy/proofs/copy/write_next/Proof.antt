@@ -9,7 +9,7 @@ use borrow.Author.Tests.{leb-true, leb-false, le-leb, lt-leb, not-true, not-fals
 use borrow.Rule.Slice.PartMut.{putMid}
 use Rattle.laws.proofs.Room.{stored, refused}
 use Rattle.events_tel.specs.Configs.{viewConfigs}
-use Rattle.events_tel.proofs.Configs.{view-size}
+use Rattle.events_tel.proofs.ConfigLaws.{view-size}
 use Rattle.codec.specs.Layout.{sectionBytes, prefixBytes}
 use Rattle.registry_bytes.proofs.StateWrites.{part-stored}
 use Rattle.registry_room.specs.NextStates.{nextMembers, nextBytes}

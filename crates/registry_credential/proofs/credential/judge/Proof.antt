@@ -4,9 +4,9 @@ use lib.Dec.{eqb}
 use borrow.Author.Needs.{needs}
 use borrow.Author.Tests.{eq-eqb, ne-eqb}
 use Rattle.registry_status.specs.Statuses.{viewStatus}
-use Rattle.registry_status.specs.declared.status.StatusInput.{StatusInput}
-use Rattle.registry_credential_error.specs.declared.credential_error.CredentialError.the-variants.{MissingRegistryReference}
-use Rattle.registry_credential.specs.declared.credential.StatusOutcome.the-variants.{Rejected}
+use Rattle.registry_status.specs.declared.StatusInput.{StatusInput}
+use Rattle.registry_credential_error.specs.declared.CredentialError.the-variants.{MissingRegistryReference}
+use Rattle.registry_credential.specs.declared.StatusOutcome.the-variants.{Rejected}
 use Rattle.registry_credential.specs.Status.{judged, binding}
 use Rattle.registry_credential.proofs.credential.judge.Statement.{statement}
 use Rattle.registry_credential.proofs.credential.judge.Tie as tie

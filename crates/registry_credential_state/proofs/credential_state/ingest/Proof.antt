@@ -4,7 +4,7 @@ use mathlib.Core.Bool.{true, false}
 use Rattle.cesr.specs.Primitives.{eqSaid}
 use Rattle.events.specs.Members.{view}
 use Rattle.registry_state.specs.States.{Registry}
-use Rattle.registry_error.specs.declared.error.Answer.{Answer}
+use Rattle.registry_error.specs.declared.Answer.{Answer}
 use Rattle.registry_answer.specs.Answers.{accepts}
 use Rattle.registry_credential_state.specs.CredentialFolds.{ingestOf}
 use Rattle.registry_credential_state.specs.CredentialParts.{outcomeAt, revocationAt}

@@ -1,12 +1,12 @@
 use denote.Ref.{now}
-use Rattle.cesr.specs.declared.primitive.Said.{Said}
+use Rattle.cesr.specs.declared.Said.{Said}
 use Rattle.registry_wire.specs.Attempts.{anchorsIn, sourcesIn, partOf}
 use Rattle.registry_authentication.specs.Issuers.{anchored, anchoredIn}
 use mathlib.Core.Path.{_≡_, ap, _∙_}
 use native.Mathlib.Omega.{arith}
 use borrow.Author.Tests.{not-true, not-false}
 use Rattle.cesr.specs.Primitives.{readMatter, saidAt, eqMatter}
-use Rattle.cesr.specs.declared.primitive.Matter.{Matter}
+use Rattle.cesr.specs.declared.Matter.{Matter}
 use Rattle.events_tel.specs.TelEvents.{snZero}
 use Rattle.registry_authentication.proofs.AnchorUse.{message-in}
 use Rattle.registry_inception.proofs.VcpLaws.{unnamed, named, list-decides, anchor-decides, receipts-decide}

@@ -41,21 +41,21 @@ use denote.Triple.Spec.{Meets, tripleOf}
 use denote.Triple.Table.{entered, cited}
 use denote.Triple.Walked.{says, Stays, stay-none, stay-ref, stay-none-slice, walkOf, goes-none, goes-ref, goes-none-slice, Walks, ends-at, walked, walk-meets}
 use denote.Exit.{yes}
-use Rattle.registry_state.specs.declared.state.RegistryState.{RegistryState}
-use Rattle.registry_state_credential.specs.declared.state.CredentialState.{CredentialState}
+use Rattle.registry_state.specs.declared.RegistryState.{RegistryState}
+use Rattle.registry_state_credential.specs.declared.CredentialState.{CredentialState}
 use Rattle.registry_issue.specs.IssueFolds.{Outcome}
 use Rattle.registry_credential_state.specs.CredentialFolds.{ingestOf}
 use Rattle.registry_lent.specs.Lent.{changesOf}
 use Rattle.registry_lent.specs.declared.credential_state.Changes.{Changes}
 use Rattle.registry_lent.proofs.Kept.{stored, kept}
-use Rattle.cesr_sn.proofs.number.Sn.Laws as N
-use Rattle.cesr.proofs.primitive.Said.Laws as D
-use Rattle.registry_state.proofs.state.RegistryState as G
-use Rattle.registry_state.proofs.state.RegistryState.Laws as G′
-use Rattle.registry_state_credential.proofs.state.CredentialState as T
-use Rattle.registry_state_credential.proofs.state.CredentialState.Laws as T′
-use Rattle.registry_error.proofs.error.Answer as R
-use Rattle.registry_error.proofs.error.Answer.Laws as R′
+use Rattle.cesr_sn.proofs.Sn.Laws as N
+use Rattle.cesr.proofs.Said.Laws as D
+use Rattle.registry_state.proofs.RegistryState as G
+use Rattle.registry_state.proofs.RegistryState.Laws as G′
+use Rattle.registry_state_credential.proofs.CredentialState as T
+use Rattle.registry_state_credential.proofs.CredentialState.Laws as T′
+use Rattle.registry_error.proofs.Answer as R
+use Rattle.registry_error.proofs.Answer.Laws as R′
 use Rattle.registry_lent.proofs.credential_state.Changes as P
 use Rattle.registry_lent.proofs.credential_state.Changes.Laws as P′
 use Rattle.registry_lent.proofs.credential_state.next as next

@@ -10,7 +10,7 @@ use borrow.Author.Needs.{needs}
 use borrow.Author.Tests.{not-true, not-false, le-leb, lt-leb}
 use Rattle.laws.proofs.Views.{length-mapped}
 use Rattle.events.specs.Members.{view, at, has}
-use Rattle.events.proofs.Members.{view-size, view-at}
+use Rattle.events.proofs.MemberLaws.{view-size, view-at}
 use Rattle.events_tel.specs.TelEvents.{membersIn}
 use Rattle.codec.proofs.Loops.{times-next, view-put}
 use Rattle.codec_cursor.specs.Readers.{readPrefix, times}

@@ -5,7 +5,7 @@ use denote.Ref.{now}
 use lib.Dec.{leb}
 use lib.ListN.{length}
 use borrow.Author.Tests.{le-leb}
-use Rattle.events_tel.proofs.Configs.{view-size}
+use Rattle.events_tel.proofs.ConfigLaws.{view-size}
 use Rattle.registry_room.specs.NextStates.{nextBytes}
 use Rattle.registry_room.proofs.Counts.{most-next, size-next}
 use borrow.Author.Needs.{needs}

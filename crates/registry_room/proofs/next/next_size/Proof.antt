@@ -3,7 +3,7 @@ use mathlib.Core.Path.{_≡_}
 use native.Mathlib.Omega.{arith}
 use denote.Ref.{now}
 use lib.ListN.{length}
-use Rattle.events_tel.proofs.Configs.{view-size}
+use Rattle.events_tel.proofs.ConfigLaws.{view-size}
 use Rattle.registry_room.specs.NextStates.{nextMembers}
 use Rattle.registry_room.proofs.Counts.{few-left, counted, size-next}
 use borrow.Author.Needs.{needs}

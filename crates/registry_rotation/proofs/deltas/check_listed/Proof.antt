@@ -7,8 +7,8 @@ use denote.Ref.{now}
 use borrow.Author.Needs.{needs}
 use borrow.Author.Count.{below-more}
 use Rattle.events.specs.Members.{breaks}
-use Rattle.events.proofs.Members.{check-found, all-sound}
-use Rattle.events_tel.specs.declared.tel.Listed.{Listed}
+use Rattle.events.proofs.MemberLaws.{check-found, all-sound}
+use Rattle.events_tel.specs.declared.Listed.{Listed}
 use Rattle.codec.proofs.Loops.{times-next}
 use Rattle.codec_cursor.specs.Readers.{readPrefix, times}
 use Rattle.codec.proofs.Loops.{length-times}

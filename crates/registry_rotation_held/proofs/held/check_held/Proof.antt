@@ -9,7 +9,7 @@ use borrow.Author.Needs.{needs}
 use borrow.Author.Count.{below-more}
 use Rattle.laws.proofs.Views.{length-mapped}
 use Rattle.events.specs.Members.{view, has, breaks}
-use Rattle.events.proofs.Members.{view-size, view-at, has-step, check-found, all-sound}
+use Rattle.events.proofs.MemberLaws.{view-size, view-at, has-step, check-found, all-sound}
 use Rattle.codec.proofs.Loops.{times-next}
 use Rattle.codec_cursor.specs.Readers.{readPrefix, times}
 use Rattle.codec.proofs.Loops.{length-times}

@@ -2,7 +2,7 @@ use denote.Ref.{now}
 use mathlib.Core.Path.{ap, sym, _∙_}
 use borrow.Author.Tests.{not-true, not-false}
 use Rattle.events_tel.specs.TelEvents.{eventAs, membersIn}
-use Rattle.events_tel.specs.declared.tel.Kind.{Kind}
+use Rattle.events_tel.specs.declared.Kind.{Kind}
 use Rattle.registry_wire.specs.Attempts.{viewAttempt}
 use Rattle.registry_management.specs.Managements.{viewManagement}
 use Rattle.registry.specs.RegistryFolds.{ingestEvent}

@@ -6,7 +6,7 @@ use borrow.Author.Tests.{not-true, not-false, le-leb, lt-leb}
 use lib.ListN.{length}
 use Rattle.events_tel.specs.TelEvents.{membersIn}
 use Rattle.registry_signatures.specs.SignatureSections.{signaturesIn}
-use Rattle.registry_error.specs.declared.error.RegistryRejection.the-variants.{TooManyBackers}
+use Rattle.registry_error.specs.declared.RegistryRejection.the-variants.{TooManyBackers}
 use Rattle.registry_answer.specs.Answers.{backerSet, firstOf}
 use Rattle.registry_answer.proofs.AnswerLaws.{first-passed, first-failed, first-passes, first-refuses, first-last}
 use Rattle.registry_room.proofs.Counts.{few-left, few-added}

@@ -4,12 +4,12 @@ use mathlib.Core.Bool.{not}
 use native.Mathlib.Omega.{arith}
 use borrow.Author.Tests.{not-true, not-false}
 use Rattle.cesr.specs.Primitives.{saidAt}
-use Rattle.cesr.specs.declared.primitive.Said.{Said}
+use Rattle.cesr.specs.declared.Said.{Said}
 use Rattle.events_tel.specs.TelEvents.{membersIn}
 use Rattle.registry_wire.specs.Attempts.{viewAttempt, sourcesIn, evidenceIn, partOf}
 use Rattle.registry_seals.specs.SealSections.{chosen}
 use Rattle.registry_management.specs.Managements.{viewManagement}
-use Rattle.registry_error.specs.declared.error.RegistryRejection.the-variants.{RotationOnBackerlessRegistry, PriorDigestMismatch}
+use Rattle.registry_error.specs.declared.RegistryRejection.the-variants.{RotationOnBackerlessRegistry, PriorDigestMismatch}
 use Rattle.registry_answer.specs.Answers.{firstOf}
 use Rattle.registry_answer.proofs.AnswerLaws.{first-passed, first-failed, first-passes, first-refuses, first-last}
 use Rattle.registry_authentication.specs.Issuers.{authenticateIssuer, authenticateIn}

@@ -8,7 +8,7 @@ use borrow.Author.Tests.{not-true, not-false}
 use lib.ListN.{length, getD}
 use Rattle.laws.proofs.Views.{length-mapped}
 use Rattle.events.specs.Members.{view, noPrefix}
-use Rattle.events.proofs.Members.{view-at}
+use Rattle.events.proofs.MemberLaws.{view-at}
 use Rattle.registry_state.specs.States.{isBacker}
 use Rattle.registry_state.proofs.StateLoops.{all-pass, all-fail}
 use Rattle.registry_state.proofs.state.all_backers.Statement.{statement}

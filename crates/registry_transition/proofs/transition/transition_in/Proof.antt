@@ -3,7 +3,7 @@ use mathlib.Core.Path.{_≡_, refl, sym, ap, _∙_}
 use mathlib.Core.List.{[]}
 use borrow.Author.Tests.{not-true, not-false}
 use Rattle.cesr.specs.Primitives.{readMatter, eqMatter}
-use Rattle.registry_error.specs.declared.error.Answer.the-variants.{Accepted}
+use Rattle.registry_error.specs.declared.Answer.the-variants.{Accepted}
 use Rattle.registry_answer.specs.Answers.{firstOf}
 use Rattle.registry_answer.proofs.AnswerLaws.{first-failed, first-passed, first-refuses, first-passes}
 use Rattle.registry_transition.specs.Transitions.{transition}

@@ -1,0 +1,36 @@
+use borrow.Author.Needs.{needs}
+use Rattle.host_values.proofs.Values.first.Statement.{statement}
+use Rattle.host_values.proofs.Values.first.Tie as tie
+
+enum-told : tie.Need-enum-told
+enum-told c = search needs
+
+small-requires : tie.Need-small-requires
+small-requires c κs = search needs
+
+enum-known-self : tie.Need-enum-known-self
+enum-known-self c = search needs
+
+enum-known-self-2 : tie.Need-enum-known-self-2
+enum-known-self-2 c = search needs
+
+returns : tie.Need-returns
+returns c = rw (c .before .enum-told .given .1) (c .small .ensures)
+
+returns-2 : tie.Need-returns-2
+returns-2 c = rw (c .before .self .given .1)
+
+returns-3 : tie.Need-returns-3
+returns-3 c = rw (c .before .self2 .given .1)
+
+pub first-spec : {M : Type 1} → statement M
+first-spec =
+    tie.close
+    (tie.spec
+    enum-told
+    small-requires
+    enum-known-self
+    enum-known-self-2
+    returns
+    returns-2
+    returns-3)

@@ -1,0 +1,40 @@
+use borrow.Author.Needs.{needs}
+use Rattle.host_values.proofs.Values.second.Statement.{statement}
+use Rattle.host_values.proofs.Values.second.Tie as tie
+
+enum-told : tie.Need-enum-told
+enum-told c = search needs
+
+small-requires : tie.Need-small-requires
+small-requires c κs = search needs
+
+enum-told-2 : tie.Need-enum-told-2
+enum-told-2 c = search needs
+
+small-requires-2 : tie.Need-small-requires-2
+small-requires-2 c κs = search needs
+
+enum-known-self : tie.Need-enum-known-self
+enum-known-self c = search needs
+
+returns : tie.Need-returns
+returns c = rw (c .before .enum-told .given .1) (c .small .ensures)
+
+returns-2 : tie.Need-returns-2
+returns-2 c = rw (c .before .enum-told2 .given .1) (c .small2 .ensures)
+
+returns-3 : tie.Need-returns-3
+returns-3 c = rw (c .before .self .given .1)
+
+pub second-spec : {M : Type 1} → statement M
+second-spec =
+    tie.close
+    (tie.spec
+    enum-told
+    small-requires
+    enum-told-2
+    small-requires-2
+    enum-known-self
+    returns
+    returns-2
+    returns-3)
