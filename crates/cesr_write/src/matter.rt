@@ -33,7 +33,7 @@ pub fn write_matter(m: Matter, out: &mut [u8], at: usize) -> bool
     true
 }
 
-// The primitive at a place, stored at another without being made a value.
+// The primitive at a place, stored at another without being made a value. Each word is stored as it is read: then the compiler leaves out both turns of its bytes.
 pub fn copy_matter(s: &[u8], from: usize, out: &mut [u8], at: usize) -> bool
     ensures { λ r. ⌜ (r ≡ room (now (out .entry)) at 33) × (now (out .exit) ≡ put (now (out .entry)) at (matterBytes (readMatter (now (s .entry)) from))) ⌝ }
 {
@@ -44,10 +44,10 @@ pub fn copy_matter(s: &[u8], from: usize, out: &mut [u8], at: usize) -> bool
     if !has_room(free, at, 33) {
         return false;
     }
-    let w0 = read_u64(s, from + 1);
-    let w1 = read_u64(s, from + 9);
-    let w2 = read_u64(s, from + 17);
-    let w3 = read_u64(s, from + 25);
-    put_matter(out, at, s[from], w0, w1, w2, w3);
+    out[at] = s[from];
+    write_u64(out, at + 1, read_u64(s, from + 1));
+    write_u64(out, at + 9, read_u64(s, from + 9));
+    write_u64(out, at + 17, read_u64(s, from + 17));
+    write_u64(out, at + 25, read_u64(s, from + 25));
     true
 }
