@@ -35,7 +35,7 @@ revChecks g said credential registry m place =
 unfoldable pub revAnswer : Registry → CredentialState → Said → Said → Said → Said → Message → Answer
 revAnswer g w said credential registry prior m = revChecks g said credential registry m (transition w credential prior)
 
--- a brv after 9: 10 (seal), 13, then as bis from 20, with 22 to 27 of its authority, and behind it 28, 15 to 17
+-- a brv after 9: 10 (seal), 13, then as bis from 20, its authority too, then 28, 15 to 17, which its place behind the held state comes to
 abbrev pub brvChecks : Registry → Said → Said → Seal → Message → Answer → Answer → Answer
 brvChecks g said credential seal m authority behind =
     firstOf

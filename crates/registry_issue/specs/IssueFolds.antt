@@ -38,7 +38,7 @@ issAnswer g said credential registry m =
     ∷ authenticateIssuer (g .issuer) credential snZero said m
     ∷ [])
 
--- a bis after 8: 10, 13, 20, 21, then 22 to 27 of its authority
+-- a bis after 8: 10, 13, 20, 21, then its authority: 22 (seal), 10 (seal's i), by evidence 22, 23 or 19, then 24, 26, 27
 abbrev pub bisChecks : Registry → Said → Said → Said → Message → Answer → Answer
 bisChecks g said credential registry m authority =
     firstOf
