@@ -33,7 +33,7 @@ fn letter(answer: Answer) -> u8
 }
 
 // How many bytes its line has, and the ledger that the attempt leaves.
-#[derive(Drop)]
+#[derive(Clone, Copy)]
 pub struct Answered {
     pub size: usize,
     pub ledger: Ledger,

@@ -1,6 +1,8 @@
 // Makes the attempts of its standard input against a ledger that starts empty, and prints a line for each, then what is held (docs/RULES.md,
 // "What the program prints"). The input may be of any length, so one attempt is held at a time. What the pieces of the input mean, what an attempt
 // comes to and how a line is written are functions with contracts; here they are only called, between reading and writing.
+#![tactic(auto)]
+
 mod line;
 
 ghost use Rattle.std.specs.Prelude.{◌≡◌, cond, ◌≤◌, length};

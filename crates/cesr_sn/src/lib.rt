@@ -1,9 +1,11 @@
 // The sequence number of events: read from bytes, written to bytes, compared, counted on.
+#![tactic(auto)]
+
 pub mod number;
 
 // A sequence number of 128 bits.
 #[repr(C)]
-#[derive(Drop)]
+#[derive(Clone, Copy)]
 pub struct Sn {
     pub hi: u64,
     pub lo: u64,

@@ -18,7 +18,6 @@ use borrow.Author.Tests.{lt-ltb, leb-true}
 use lib.Dec.{leb}
 use lib.ListN.{length, take, set, length-append}
 use Rattle.cesr.specs.declared.BasicPrefix.{BasicPrefix}
-use Rattle.events.specs.declared.Members.{Members}
 use Rattle.events.specs.Members.{view}
 use Rattle.events.proofs.MemberLaws.{view-push}
 use Rattle.events_tel.specs.TelEvents.{members_in}

@@ -5,14 +5,13 @@ use mathlib.Core.List.{List}
 use mathlib.Core.Bool.{Bool, true, false, cond, ◌&&◌}
 use native.Mathlib.Nat.{add-zero, zero-mul, zero-add}
 use native.Mathlib.Omega.{arith}
-use lib.ListN.{length, get_or}
 use Rattle.laws.specs.Number.{number, number_at}
 use Rattle.laws.specs.Room.{room}
 use Rattle.laws.proofs.Number.{whole-number}
 use Rattle.laws.proofs.Room.{room-true}
 use Rattle.cesr.specs.Primitives.{read_matter}
 use Rattle.codec_cursor.specs.declared.Cursor.{Cursor}
-use Rattle.codec_cursor.specs.Readers.{advanced, need, stopped, letter_only}
+use Rattle.codec_cursor.specs.Readers.{advanced, need, stopped}
 
 -- the letter of a primitive whose bytes are all there
 letter_at : (s : List ℕ) (at : ℕ) → room s at 33 ≡ true → number_at s at 1 ≡ (read_matter s at).code

@@ -1,4 +1,6 @@
 // A cursor over lent bytes, by which the layouts are read (docs/RULES.md, "Bytes").
+#![tactic(auto)]
+
 ghost use Rattle.std.specs.Prelude.{◌≡◌};
 ghost use Rattle.codec_cursor.specs.Readers.{starting, advanced, need, view_byte, read_byte, view_said, read_said, view_prefix, read_prefix, view_matter, read_identifier, view_sn, read_number, view_u32, read_quad, counted, letter_only};
 
@@ -6,43 +8,43 @@ use cesr::{BasicPrefix, Matter, Said};
 use cesr_number::number::{has_room, read_u8, read_u32};
 use cesr_sn::Sn;
 
-#[derive(Drop)]
+#[derive(Clone, Copy)]
 pub struct Cursor {
     pub ok: bool,
     pub at: usize,
 }
 
-#[derive(Drop)]
+#[derive(Clone, Copy)]
 pub struct ByteRead {
     pub value: u8,
     pub next: Cursor,
 }
 
-#[derive(Drop)]
+#[derive(Clone, Copy)]
 pub struct U32Read {
     pub value: u32,
     pub next: Cursor,
 }
 
-#[derive(Drop)]
+#[derive(Clone, Copy)]
 pub struct SnRead {
     pub value: Sn,
     pub next: Cursor,
 }
 
-#[derive(Drop)]
+#[derive(Clone, Copy)]
 pub struct SaidRead {
     pub value: Said,
     pub next: Cursor,
 }
 
-#[derive(Drop)]
+#[derive(Clone, Copy)]
 pub struct PrefixRead {
     pub value: BasicPrefix,
     pub next: Cursor,
 }
 
-#[derive(Drop)]
+#[derive(Clone, Copy)]
 pub struct MatterRead {
     pub value: Matter,
     pub next: Cursor,

@@ -1,10 +1,12 @@
 // Seals, read from bytes or passed (docs/RULES.md, "Bytes").
+#![tactic(auto)]
+
 pub mod seal;
 
 use codec_cursor::Cursor;
 use events_seal::Seal;
 
-#[derive(Drop)]
+#[derive(Clone, Copy)]
 pub struct SealRead {
     pub value: Seal,
     pub next: Cursor,

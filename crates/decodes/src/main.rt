@@ -1,5 +1,7 @@
 // Reads attempts, each behind the answer that is expected of it, and says which `Attempt::decode` finds malformed, and how many as
 // expected. A record is a byte, 0 for well-formed or 1 for malformed, a byte for its group, two bytes for a length, and as many bytes.
+#![tactic(auto)]
+
 mod tally;
 
 ghost use Rattle.std.specs.Prelude.{◌≡◌, ◌+◌, ◌*◌, ◌≤◌, length};
@@ -9,7 +11,7 @@ use libc::{STDIN_FILENO, STDOUT_FILENO};
 use registry_wire::Attempt;
 use tally::{Finding, Tally};
 
-#[derive(Drop)]
+#[derive(Clone, Copy)]
 enum Next {
     Attempt { group: u8, finding: Finding },
     End,
@@ -17,7 +19,7 @@ enum Next {
     Broken,
 }
 
-#[derive(Drop)]
+#[derive(Clone, Copy)]
 struct Outcome {
     tally: Tally,
     broken: bool,

@@ -5,14 +5,14 @@ ghost use Rattle.decodes.specs.Counting.{plus_of, counted_of, no_count, no_tally
 use libc::STDOUT_FILENO;
 
 // What is found of an attempt.
-#[derive(Drop)]
+#[derive(Clone, Copy)]
 pub struct Finding {
     pub malformed: bool,
     // Whether the record said so too.
     pub agrees: bool,
 }
 
-#[derive(Drop)]
+#[derive(Clone, Copy)]
 pub struct Count {
     pub attempts: u64,
     pub malformed: u64,
@@ -20,7 +20,7 @@ pub struct Count {
 }
 
 // The groups 1 to 6, each at its number, and at 0 any other.
-#[derive(Drop)]
+#[derive(Clone, Copy)]
 pub struct Tally {
     pub groups: [Count; 7],
     pub total: Count,

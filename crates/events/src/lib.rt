@@ -1,25 +1,27 @@
 // Lists of backers by value, and what the rules on them can answer (docs/RULES.md, "Lists of backers").
+#![tactic(auto)]
+
 pub mod member_set;
 
 use cesr::BasicPrefix;
 
 // The members are the first `count` of the items.
 #[repr(C)]
-#[derive(Drop)]
+#[derive(Clone, Copy)]
 pub struct Members {
     pub items: [BasicPrefix; 16],
     pub count: usize,
 }
 
 // What `push` answers: whether there was a place, and the list.
-#[derive(Drop)]
+#[derive(Clone, Copy)]
 pub struct Pushed {
     pub ok: bool,
     pub members: Members,
 }
 
 // The rules, in the order of their numbers.
-#[derive(Drop)]
+#[derive(Clone, Copy)]
 pub enum Rule {
     DuplicateBacker,
     DuplicateCut,
@@ -30,7 +32,7 @@ pub enum Rule {
 }
 
 // The answer of a check. `at` is the position, from 0, of an element that breaks the rule.
-#[derive(Drop)]
+#[derive(Clone, Copy)]
 pub enum Membership {
     Sound,
     Broken { rule: Rule, at: usize },

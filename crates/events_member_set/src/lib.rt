@@ -1,6 +1,8 @@
 // The checks of lists of backers.
+#![tactic(auto)]
+
 pub mod member_set;
 
 // The checks of lists of backers.
-#[derive(Drop)]
+#[derive(Clone, Copy)]
 pub struct MemberSet;

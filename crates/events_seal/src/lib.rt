@@ -1,4 +1,6 @@
 // Identifiers and seals (docs/RULES.md, "Identifiers and seals").
+#![tactic(auto)]
+
 ghost use Rattle.std.specs.Prelude.{◌≡◌};
 ghost use Rattle.events_seal.specs.Identifiers.{identifier_of, matter_of, eq_identifier};
 ghost use Rattle.events_seal.specs.Seals.{kind_of};
@@ -6,7 +8,7 @@ ghost use Rattle.events_seal.specs.Seals.{kind_of};
 use cesr::{BasicPrefix, Matter, Said};
 use cesr_sn::Sn;
 
-#[derive(Drop)]
+#[derive(Clone, Copy)]
 pub enum Identifier {
     Basic(BasicPrefix),
     SelfAddressing(Said),
@@ -40,7 +42,7 @@ impl Identifier {
 }
 
 // Of an event seal the identifier, the sequence number and the digest are kept; of the other seven no rule reads more than the kind.
-#[derive(Drop)]
+#[derive(Clone, Copy)]
 pub enum Seal {
     Digest,
     Root,

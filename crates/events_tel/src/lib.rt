@@ -1,4 +1,6 @@
 // Configuration traits, and the events of a registry and its credentials.
+#![tactic(auto)]
+
 pub mod config;
 pub mod tel;
 
@@ -8,7 +10,7 @@ use events_seal::Seal;
 use events_toad::Toad;
 
 // What an identifier may do.
-#[derive(Drop)]
+#[derive(Clone, Copy)]
 pub enum ConfigTrait {
     // Establishment events alone.
     EstOnly,
@@ -22,7 +24,7 @@ pub enum ConfigTrait {
     DelegateIsDelegator,
 }
 
-#[derive(Drop)]
+#[derive(Clone, Copy)]
 pub enum TraitRead {
     Trait(ConfigTrait),
     UnknownConfigTrait,
@@ -31,20 +33,20 @@ pub enum TraitRead {
 // A list of at most 8 config bytes, as it was handed in. They are kept as bytes, since a host lends them as memory and every
 // pattern of bits has to be a value.
 #[repr(C)]
-#[derive(Drop)]
+#[derive(Clone, Copy)]
 pub struct Configs {
     pub codes: [u8; 8],
     pub count: usize,
 }
 
 // A list with one more byte, or the list as it was where there is no room.
-#[derive(Drop)]
+#[derive(Clone, Copy)]
 pub struct PushedConfig {
     pub ok: bool,
     pub configs: Configs,
 }
 
-#[derive(Drop)]
+#[derive(Clone, Copy)]
 pub enum Kind {
     Vcp,
     Vrt,
@@ -55,14 +57,14 @@ pub enum Kind {
 }
 
 // A list of prefixes that stays in the bytes: how many there are, and where the first stands.
-#[derive(Drop)]
+#[derive(Clone, Copy)]
 pub struct Listed {
     pub count: usize,
     pub start: Cursor,
 }
 
 // An event of any kind, flat: a field that the kind has no use for is blank. Digests, prefixes and lists stay in the bytes, and the event says where each stands, since they would be copied with it at every call.
-#[derive(Drop)]
+#[derive(Clone, Copy)]
 pub struct TelEvent {
     pub kind: Kind,
     pub said: usize,

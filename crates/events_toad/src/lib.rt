@@ -1,14 +1,16 @@
 // Thresholds of backer receipts (docs/RULES.md, "Thresholds").
+#![tactic(auto)]
+
 ghost use Rattle.std.specs.Prelude.{◌≡◌, ◌<◌, ◌^◌, min, max};
 ghost use Rattle.events_toad.specs.Toads.{toad_of, toad_number, exact_ok, exact_of, ceil, strong_majority, least_of, ample_of};
 
 // Wraps its number, so that a threshold is never taken for a count of receipts or of backers.
 #[repr(C)]
-#[derive(Drop)]
+#[derive(Clone, Copy)]
 pub struct Toad(u32);
 
 // A threshold, or why there is none.
-#[derive(Drop)]
+#[derive(Clone, Copy)]
 pub enum ToadResult {
     Valid(Toad),
     // The threshold is not 1 to the number of witnesses, or not 0 where there are none.

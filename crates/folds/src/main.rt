@@ -6,6 +6,8 @@
 // expected, its letter, the evidence kind awaited, how many details there are, two details of 16 bytes (0 where there is none), and four
 // lengths of two bytes. The body has so many bytes of the next state, of the registry state, of the credential state, and of the attempt
 // or the input of `status`. Behind a refusal there is no next state, since the one that was handed in stays.
+#![tactic(auto)]
+
 mod tally;
 
 ghost use Rattle.std.specs.Prelude.{◌≤◌, length};
@@ -15,7 +17,7 @@ use folds_judge::judge::{body_size, judge_record};
 use libc::{STDIN_FILENO, STDOUT_FILENO};
 use tally::Tally;
 
-#[derive(Drop)]
+#[derive(Clone, Copy)]
 enum Next {
     Case {
         number: u8,
@@ -27,7 +29,7 @@ enum Next {
     Broken,
 }
 
-#[derive(Drop)]
+#[derive(Clone, Copy)]
 struct Outcome {
     tally: Tally,
     broken: bool,

@@ -5,14 +5,14 @@ ghost use Rattle.folds.specs.Counting.{plus_of, counted_of, no_count, no_tally, 
 use folds_judge::Finding;
 use libc::STDOUT_FILENO;
 
-#[derive(Drop)]
+#[derive(Clone, Copy)]
 pub struct Count {
     pub cases: u64,
     pub agree: u64,
 }
 
 // The numbers 0 to 39, each at its place, and at 40 any other.
-#[derive(Drop)]
+#[derive(Clone, Copy)]
 pub struct Tally {
     pub numbers: [Count; 41],
     pub total: Count,

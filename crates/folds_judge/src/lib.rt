@@ -1,4 +1,6 @@
 // A recorded call of a fold or of `status`, made again and held against its record.
+#![tactic(auto)]
+
 mod credential_case;
 pub mod judge;
 pub mod part;
@@ -8,7 +10,7 @@ use registry_state::RegistryState;
 use registry_state_credential::CredentialState;
 
 // What is found of a case.
-#[derive(Drop)]
+#[derive(Clone, Copy)]
 pub struct Finding {
     pub agrees: bool,
     // Whether the states in its record can be read.
@@ -16,13 +18,13 @@ pub struct Finding {
 }
 
 // A state in a record, and whether its bytes are such a state and nothing else.
-#[derive(Drop)]
+#[derive(Clone, Copy)]
 pub struct RegistryPart {
     pub ok: bool,
     pub value: RegistryState,
 }
 
-#[derive(Drop)]
+#[derive(Clone, Copy)]
 pub struct CredentialPart {
     pub ok: bool,
     pub value: CredentialState,

@@ -1,4 +1,6 @@
 // The calls that are exported to other languages (docs/RULES.md, "Host's calls").
+#![tactic(auto)]
+
 pub mod apply;
 pub mod empty;
 pub mod folds;

@@ -2,14 +2,13 @@
 --     is-attempt, is_none    bytes that are an attempt, with the number of its kind, and bytes that are none
 use Prim.Native.Nat.{ℕ}
 use mathlib.Core.Path.{◌≡◌, refl, sym, ap, ◌∙◌}
-use mathlib.Core.Bool.{Bool, true, false, cond}
+use mathlib.Core.Bool.{true, false}
 use mathlib.Core.List.{List, [], ◌∷◌}
 use Rattle.events_tel.specs.TelEvents.{kind_number, event_as}
 use Rattle.events_tel.specs.declared.Kind.{Kind}
 use Rattle.events_tel.specs.declared.Kind.TheVariants.{Vcp, Vrt, Iss, Rev, Bis, Brv}
 use Rattle.events_tel.specs.declared.TelEvent.{TelEvent}
-use Rattle.registry_wire.specs.Attempts.{Decoded, view_decoded, decode_of}
-use Rattle.registry_wire.specs.Attempts.Decoded.{malformed, decoded}
+use Rattle.registry_wire.specs.Attempts.{view_decoded, decode_of}
 use Rattle.registry_wire.specs.declared.DecodedAttempt.{DecodedAttempt}
 use Rattle.registry_error.specs.declared.RegistryRejection.TheVariants.{Malformed}
 use Rattle.registry_error.specs.declared.Answer.TheVariants.{Accepted, Rejected}

@@ -5,7 +5,7 @@ ghost use Rattle.host_ledger.specs.LedgerCalls.{said_in, key_in, view_key};
 use cesr::{Matter, Said};
 
 // What a look-up asks for.
-#[derive(Drop)]
+#[derive(Clone, Copy)]
 pub struct Key {
     pub registry: Said,
     pub credential: Said,

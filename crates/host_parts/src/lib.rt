@@ -1,2 +1,4 @@
 // What the folds over bytes share (docs/RULES.md, "Host's calls").
+#![tactic(auto)]
+
 pub mod part;

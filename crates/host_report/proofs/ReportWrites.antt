@@ -1,12 +1,12 @@
 -- Laws of the bytes of a report.
 --     report-put   its marks and its two values, stored one behind the other in 36 bytes, are the report
 --     length-report, length-answer   a report has 36 bytes
-use Prim.Native.Nat.{ℕ, ◌+◌, ◌≤◌}
-use mathlib.Core.Path.{◌≡◌, refl, ap, sym, ◌∙◌}
+use Prim.Native.Nat.{ℕ, ◌+◌}
+use mathlib.Core.Path.{◌≡◌, refl, sym, ◌∙◌}
 use mathlib.Core.List.{List, [], ◌∷◌, ◌++◌, append-nil}
 use native.Mathlib.Omega.{arith}
-use lib.ListN.{length, drop, get_or, length-append, drop_of_length-le}
-use lib.Seq.{sets, sets-eq, length-sets}
+use lib.ListN.{length, get_or, length-append, drop_of_length-le}
+use lib.Seq.{sets, sets-eq}
 use Rattle.laws.specs.Number.{digits}
 use Rattle.laws.specs.Room.{put}
 use Rattle.laws.proofs.Number.{length_digits}

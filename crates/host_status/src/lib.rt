@@ -1,2 +1,4 @@
 // `status`, with its report (docs/RULES.md, "Host's calls").
+#![tactic(auto)]
+
 pub mod status_calls;

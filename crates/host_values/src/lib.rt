@@ -1,4 +1,6 @@
 // The values of a report: evidence kinds awaited, and details (docs/RULES.md, "Refusals").
+#![tactic(auto)]
+
 ghost use Rattle.std.specs.Prelude.{◌≡◌, [], ◌∷◌, length, get_or};
 ghost use Rattle.cesr_sn.specs.Numbers.{value};
 ghost use Rattle.events.specs.Members.{rule_of};
@@ -11,7 +13,7 @@ use events::Rule;
 use registry_disposition::{Disposition, EvidenceKind};
 use registry_error::RegistryRejection;
 
-#[derive(Drop)]
+#[derive(Clone, Copy)]
 pub enum Values {
     Nothing,
     One(Sn),

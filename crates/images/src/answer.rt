@@ -9,7 +9,7 @@ use cesr_number::number::{read_u8, read_u16, read_u32};
 use ledger::ledger::{look_up, read_image, write_image};
 use ledger_table::Ledger;
 
-#[derive(Drop)]
+#[derive(Clone, Copy)]
 pub struct Facts {
     // What reading answers: 0 or the refusal 1.
     pub number: u8,
@@ -26,13 +26,13 @@ pub struct Facts {
     pub standing: u8,
 }
 
-#[derive(Drop)]
+#[derive(Clone, Copy)]
 pub struct Answered {
     pub facts: Facts,
     pub ledger: Ledger,
 }
 
-#[derive(Drop)]
+#[derive(Clone, Copy)]
 struct Image {
     size: usize,
     digest: u64,

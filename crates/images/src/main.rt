@@ -4,6 +4,8 @@
 // A record is 80 bytes and an image. The bytes: the number that is expected, how many registries (one byte) and rows (two) are held
 // then, the length of the image that is written then (two) and its digest (four), the refusal and the standing of the look-up (one
 // each), the key (two primitives), and the length of the image (two).
+#![tactic(auto)]
+
 mod answer;
 mod tally;
 
@@ -15,7 +17,7 @@ use ledger_table::Ledger;
 use libc::{STDIN_FILENO, STDOUT_FILENO};
 use tally::Tally;
 
-#[derive(Drop)]
+#[derive(Clone, Copy)]
 enum Next {
     // The bytes of a record stand in the first buffer, its image in the second.
     Image,
@@ -24,7 +26,7 @@ enum Next {
     Broken,
 }
 
-#[derive(Drop)]
+#[derive(Clone, Copy)]
 struct Outcome {
     tally: Tally,
     broken: bool,

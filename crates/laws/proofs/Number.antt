@@ -71,13 +71,14 @@ unfolding number digits
 number_digits zero x p q h = omega (arith, simp pow-zero at h)
 number_digits (suc n) x p q h =
     let d = digits n (x / 256) in
-    let e : p ++ ((d ++ (x % 256 ∷ [])) ++ q) ≡ p ++ (d ++ (x % 256 ∷ q)) = rw append_assoc in
+    let l : List ℕ = p ++ (d ++ (x % 256 ∷ q)) in
+    let e : p ++ ((d ++ (x % 256 ∷ [])) ++ q) ≡ l = ap (λ (t : List ℕ). p ++ t) (append_assoc d (x % 256 ∷ []) q) in
     let hi : x / 256 < 256 ^ n = (div-lt_iff_lt-mul (lit< tt)).1 (rw pow-suc at h) in
-    rw e
-    (ap (λ (k : ℕ). k * 256 + get_or (p ++ (d ++ (x % 256 ∷ q))) (length p + n) 0) (number_digits n (x / 256) p (x % 256 ∷ q) hi)
+    ap (λ (t : List ℕ). number t (length p) n * 256 + get_or t (length p + n) 0) e
+    ∙ ap (λ (k : ℕ). k * 256 + get_or l (length p + n) 0) (number_digits n (x / 256) p (x % 256 ∷ q) hi)
     ∙ ap (λ (k : ℕ). x / 256 * 256 + k)
     (get_or-append-add p (d ++ (x % 256 ∷ q)) n 0 ∙ get_or_at d (x % 256) q 0 n (length_digits n (x / 256)))
-    ∙ div-add-mod' x 256)
+    ∙ div-add-mod' x 256
 
 -- a number is found where its bytes stand
 pub number-at : (l p q : List ℕ) (at n x : ℕ) → l ≡ p ++ (digits n x ++ q) → length p ≡ at → x < 256 ^ n → number l at n ≡ x

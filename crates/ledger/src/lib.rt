@@ -1,18 +1,20 @@
 // A ledger by value (docs/RULES.md, "Ledger"): its calls, for a caller that holds the states and lends none.
+#![tactic(auto)]
+
 pub mod ledger;
 
 use ledger_table::Ledger;
 use registry_error::Answer;
 
 // What an attempt answers, and the ledger behind it, which after a refusal is the one that was handed in.
-#[derive(Drop)]
+#[derive(Clone, Copy)]
 pub struct LedgerApplied {
     pub answer: Answer,
     pub ledger: Ledger,
 }
 
 // What reading an image answers: 0 or the refusal 1, and the ledger, which after a refusal is the one that was handed in.
-#[derive(Drop)]
+#[derive(Clone, Copy)]
 pub struct LedgerRead {
     pub number: u8,
     pub ledger: Ledger,

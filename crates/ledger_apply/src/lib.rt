@@ -1,2 +1,4 @@
 // The ledger's call on registries and rows that are lent (docs/RULES.md, "Ledger").
+#![tactic(auto)]
+
 pub mod apply;

@@ -3,7 +3,7 @@
 --     codes-image    what is read is exactly what the layout writes, within the limits
 --     image-read     bytes are read as a ledger exactly when they are its image, it is within the limits, and it is sound
 use Prim.Native.Nat.{ℕ}
-use mathlib.Core.Path.{◌≡◌, refl, ap, sym, ◌∙◌}
+use mathlib.Core.Path.{◌≡◌, refl}
 use mathlib.Core.Logic.{◌↔◌}
 use mathlib.Core.List.{List}
 use mathlib.Core.Bool.{Bool, true, false, cond, ◌&&◌}

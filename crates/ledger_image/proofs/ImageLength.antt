@@ -11,7 +11,6 @@ use native.Mathlib.Omega.{arith}
 use borrow.Author.Tests.{leb-true}
 use lib.Dec.{leb}
 use lib.ListN.{length, length-append}
-use Rattle.laws.specs.Number.{digits}
 use Rattle.laws.proofs.Number.{length_digits}
 use Rattle.laws.proofs.Tests.{and_left, and_right}
 use Rattle.codec.specs.Events.{is_config}

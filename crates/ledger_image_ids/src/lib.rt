@@ -1,4 +1,6 @@
 // The ids of an image's registries, as they are met.
+#![tactic(auto)]
+
 ghost use Rattle.std.specs.Prelude.{◌≡◌, [], ◌≤◌, length};
 ghost use Rattle.cesr.specs.Primitives.{eq_said};
 ghost use Rattle.ledger_step.specs.Tables.{has};
@@ -7,7 +9,7 @@ ghost use Rattle.ledger_image_ids.specs.IdLists.{view_ids, pushed};
 use cesr::{Matter, Said};
 
 // The ids are the first `count` of the items.
-#[derive(Drop)]
+#[derive(Clone, Copy)]
 pub struct Ids {
     pub items: [Said; 16],
     pub count: usize,

@@ -1,2 +1,4 @@
 // Judges the rows of an image by its bytes (docs/RULES.md, "Image", "Reading rules").
+#![tactic(auto)]
+
 pub mod rows;

@@ -11,7 +11,7 @@ use Rattle.registry_state.specs.declared.RegistryState.{RegistryState}
 use Rattle.registry_state_credential.specs.declared.CredentialState.{CredentialState}
 use Rattle.ledger_image.specs.Images.{ImageAnswer, image_of, image_into}
 use Rattle.ledger_image.specs.Images.ImageAnswer.{refused, held}
-use Rattle.ledger_read.specs.ImageReads.{Counts, counts_of, counts_after, rows_after}
+use Rattle.ledger_read.specs.ImageReads.{counts_of, counts_after, rows_after}
 use Rattle.ledger_read.specs.declared.ImageRead.{ImageRead}
 use Rattle.ledger_read.proofs.ReadBack.{ReadInto, held_after}
 use Rattle.ledger_table.specs.Tables.{view_ledger, ledger_after}

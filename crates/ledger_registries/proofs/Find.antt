@@ -1,7 +1,6 @@
 -- How a loop finds an id, one registry at a time: the laws of `PlaceSteps`, by the registries that are lent.
---     Facts      what holds where t registries are left of the n that are searched: none that was passed has the id
---     at-start, at-miss, at-hit, at-end   it holds before the first turn, a turn keeps it, and what the loop answers is the search's answer
-use Prim.Native.Nat.{ℕ, suc, ◌-◌, ◌<◌, min}
+--     at-hit, at-end   where none that was passed has the id, what the loop answers is the search's answer
+use Prim.Native.Nat.{ℕ, ◌<◌, min}
 use mathlib.Core.Path.{◌≡◌, refl, sym, ap, ◌∙◌}
 use mathlib.Core.Bool.{Bool, true, false}
 use mathlib.Core.List.{List, map}
@@ -31,20 +30,11 @@ module _ (gs : List RegistryState) (count : ℕ) (id : Said) where
   seen : (i : ℕ) → i < size → eq_said (id_of (get_or held i no_held)) id ≡ has_id i
   seen i h = ap (λ (g : Held). eq_said (id_of g) id) (sym (held_at gs count i h))
 
-  abbrev pub Facts : ℕ → Type 0
-  Facts t = P.Missed id_of eq_said no_held id held size t
-
-  pub at-start : Facts size
-  at-start = P.at-start id_of eq_said no_held id held size
-
-  pub at-miss : (t : ℕ) → Facts (suc t) → has_id (size - suc t) ≡ false → Facts t
-  at-miss t f e = P.at-miss id_of eq_said no_held id held size t f (seen (size - suc t) (omega (arith, f.0)) ∙ e)
-
-  pub at-hit : (t : ℕ) → Facts (suc t) → has_id (size - suc t) ≡ true → size - suc t ≡ find_registry gs count id
+  pub at-hit : (at : ℕ) → at < size → ((i : ℕ) → i < at → has_id i ≡ false) → has_id at ≡ true → at ≡ find_registry gs count id
   unfolding find_registry
-  at-hit t f e =
-      P.at-hit id_of eq_said no_held id held size t (sym (seen_size held_of count (length gs) gs refl)) f (seen (size - suc t) (omega (arith, f.0)) ∙ e)
+  at-hit at h f e =
+      P.at-hit id_of eq_said no_held id held at (omega (arith, seen_size held_of count (length gs) gs refl)) (λ i l. seen i (omega arith) ∙ f i l) (seen at h ∙ e)
 
-  pub at-end : Facts 0 → size ≡ find_registry gs count id
+  pub at-end : ((i : ℕ) → i < size → has_id i ≡ false) → size ≡ find_registry gs count id
   unfolding find_registry
-  at-end f = P.at-end id_of eq_said no_held id held size (sym (seen_size held_of count (length gs) gs refl)) f
+  at-end f = P.at-end id_of eq_said no_held id held size (sym (seen_size held_of count (length gs) gs refl)) (λ i h. seen i h ∙ f i h)

@@ -1,2 +1,4 @@
 // The check of all registries that are lent (docs/RULES.md, "Reading rules").
+#![tactic(auto)]
+
 pub mod check;

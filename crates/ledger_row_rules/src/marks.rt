@@ -6,7 +6,7 @@ ghost use Rattle.ledger_row_rules.specs.Marking.{no_marks, marking};
 use cesr::Said;
 
 // A set of 1,024 bits. The bit that a credential's first word names is set once a row has that credential, so a row whose bit is not set needs no search.
-#[derive(Drop)]
+#[derive(Clone, Copy)]
 pub struct Marks {
     pub seen: [u64; 16],
     // How many rows have to be searched for the last credential.

@@ -2,7 +2,7 @@
 --     wrote, wrote_none, wrote-more, wrote-all   the buffer when i rows are written behind their count
 --     not_written                                nothing is written where the test of the sizes fails
 --     read, cursor, read_none, read_more, cursor-more   the rows when i of them are stored, and the cursor behind the bytes they were read from
-use Prim.Native.Nat.{ℕ, zero, suc, ◌+◌, ◌-◌, ◌*◌, ◌<◌, ◌≤◌, ◌^◌}
+use Prim.Native.Nat.{ℕ, zero, suc, ◌+◌, ◌*◌, ◌<◌, ◌≤◌}
 use mathlib.Core.Path.{◌≡◌, refl, sym, ap, ◌∙◌}
 use mathlib.Core.Bool.{Bool, true, false, cond, ◌&&◌}
 use mathlib.Core.List.{List, [], ◌∷◌, ◌++◌, append_assoc, append-nil}
@@ -138,23 +138,3 @@ module _ (bs : List ℕ) (a : ℕ) (ys : List CredentialState) where
       ∙ ap (λ (k : ℕ). sets (read i) k ((read_credential bs (cursor i)).value ∷ [])) (sym (zero-add (length (rows_from bs a i)) ∙ length_from i))
       ∙ sym (sets-append ys 0 (rows_from bs a i) ((read_credential bs (cursor i)).value ∷ []))
       ∙ ap (sets ys 0) (sym (from_more i))
-
--- ---- numbers: the place of a row in the buffer, where t rows are left of n and there is room for the section
-module _ {n m t : ℕ} (l : 2 + 115 * n ≤ m) (f : suc t ≤ n) (g : m < 2 ^ 64) where
-  pub at-fits : 2 + 115 * (n - suc t) < 2 ^ 64
-  at-fits = omega arith
-
-  pub room_for : 2 + 115 * (n - suc t) + 115 ≤ m
-  room_for = omega arith
-
-  pub next-at-fits : 2 + 115 * (n - suc t) + 115 < 2 ^ 64
-  next-at-fits = omega arith
-
-  pub next-at : 2 + 115 * (n - suc t) + 115 ≡ 2 + 115 * (n - t)
-  next-at = omega arith
-
-pub first-at : (n : ℕ) → 2 ≡ 2 + 115 * (n - n)
-first-at n = omega arith
-
-pub count_fits : (n m : ℕ) → 2 + 115 * n ≤ m → 2 ≤ m
-count_fits n m l = omega arith

@@ -2,8 +2,7 @@
 --     registry-few         a registry has at most 657 bytes
 --     sized                the bytes of the first i registries, behind the two of the count
 --     sized-none, sized-more, sized-all   none, one more, and all of them
---     Facts, at-start, at_turn            what holds where t registries are left of n
-use Prim.Native.Nat.{ℕ, suc, ◌+◌, ◌-◌, ◌*◌, ◌^◌, ◌<◌, ◌≤◌, min}
+use Prim.Native.Nat.{ℕ, suc, ◌+◌, ◌<◌, ◌≤◌, min}
 use mathlib.Core.Path.{◌≡◌, refl, ap, sym, ◌∙◌}
 use mathlib.Core.List.{List, [], ◌∷◌, ◌++◌, map, map-append}
 use native.Mathlib.Omega.{arith}
@@ -73,26 +72,3 @@ module _ (ys : List RegistryState) where
   pub sized-all : (count : ℕ) → sized (used count) ≡ length (section_of ys count)
   unfolding sized
   sized-all count = rw (section-of count, length-append, length_digits)
-
-  -- ---- the loop's invariant, where t registries are left of n
-  abbrev pub Facts : ℕ → ℕ → Type 0
-  Facts n t = (t ≤ n) × (sized (n - t) ≤ 2 + 657 * (n - t))
-
-  pub at-start : (n : ℕ) → Facts n n
-  at-start n = let e : n - n ≡ 0 = omega arith in (omega arith, rw (e, sized-none) (omega arith))
-
-  module _ (count t : ℕ) (f : Facts (used count) (suc t)) where
-    abbrev n : ℕ
-    n = used count
-
-    pub few-enough : sized (n - suc t) ≤ 10000
-    few-enough = omega (arith, f.0, f.1)
-
-    pub at_turn : (r : ℕ) → (r ≡ sized (n - suc t) + length (registry_bytes (view_registry (get_or ys (n - suc t) blank)))) × (r ≤ sized (n - suc t) + 657) → (r ≡ sized (n - t)) × Facts n t
-    at_turn r h =
-        let s : suc (n - suc t) ≡ n - t = omega (arith, f.0) in
-        let e : r ≡ sized (n - t) = h.0 ∙ sized-more (n - suc t) (omega (arith, f.0)) ∙ ap sized s in
-        (e, (omega (arith, f.0), omega (arith, e, h.1, f.0, f.1)))
-
-  pub end_fits : (count : ℕ) → Facts (used count) 0 → sized (used count - 0) < 2 ^ 64
-  end_fits count f = omega (arith, f.1)

@@ -29,10 +29,13 @@ module _ {X K : Type 0} (key : X → K) (eq : K → K → Bool) where
       go none ih = omega arith
       go (some x) ih = omega arith
 
-  pub lacking-one : (ks : List K) (l : List X) (k : K) → Memᴰ k ks → find key eq k l ≡ none → 1 ≤ lacking ks l
+  lacking-of : (l : List X) (k : K) (ks : List K) → Memᴰ k ks → find key eq k l ≡ none → 1 ≤ lacking ks l
   unfolding lacking
-  lacking-one ks l k (Memᴰ.head {x = a} {xs = al} p) e = let q : find key eq a l ≡ none = rw p at e in rw q (omega arith)
-  lacking-one ks l k (Memᴰ.tail {x = a} {xs = al} m) e = omega (arith, lacking-one al l k m e)
+  lacking-of l k ks (Memᴰ.head {x = a} {xs = al} p) e = let q : find key eq a l ≡ none = rw p at e in rw q (omega arith)
+  lacking-of l k ks (Memᴰ.tail {x = a} {xs = al} m) e = omega (arith, lacking-of l k al m e)
+
+  pub lacking-one : (ks : List K) (l : List X) (k : K) → Memᴰ k ks → find key eq k l ≡ none → 1 ≤ lacking ks l
+  lacking-one ks l k m e = lacking-of l k ks m e
 
   lack-append : (k : K) (l : List X) (x : X) → lack (find key eq k (l ++ (x ∷ []))) ≤ lack (find key eq k l)
   lack-append k l x = rw (find-append key eq k l x) (go (find key eq k l) (eq (key x) k))
@@ -48,12 +51,15 @@ module _ {X K : Type 0} (key : X → K) (eq : K → K → Bool) where
   lacking-no-more (k ∷ ks) l x = omega (arith, lack-append k l x, lacking-no-more ks l x)
 
   module _ (test : Tests eq) where
-    pub lacking-append : (ks : List K) (l : List X) (x : X) → Memᴰ (key x) ks → find key eq (key x) l ≡ none → lacking ks (l ++ (x ∷ [])) < lacking ks l
+    lacking-behind : (l : List X) (x : X) (ks : List K) → Memᴰ (key x) ks → find key eq (key x) l ≡ none → lacking ks (l ++ (x ∷ [])) < lacking ks l
     unfolding lacking
-    lacking-append ks l x (Memᴰ.head {x = a} {xs = al} p) e =
+    lacking-behind l x ks (Memᴰ.head {x = a} {xs = al} p) e =
         let q : find key eq a l ≡ none = rw p at e in
         rw (find-append key eq a l x, q, ← p, test.same (key x)) (omega (arith, lacking-no-more al l x))
-    lacking-append ks l x (Memᴰ.tail {x = a} {xs = al} m) e = omega (arith, lack-append a l x, lacking-append al l x m e)
+    lacking-behind l x ks (Memᴰ.tail {x = a} {xs = al} m) e = omega (arith, lack-append a l x, lacking-behind l x al m e)
+
+    pub lacking-append : (ks : List K) (l : List X) (x : X) → Memᴰ (key x) ks → find key eq (key x) l ≡ none → lacking ks (l ++ (x ∷ [])) < lacking ks l
+    lacking-append ks l x m e = lacking-behind l x ks m e
 
     pub lacking-put : (ks : List K) (k : K) (x : X) (l : List X) → key x ≡ k → lacking ks (put key eq k x l) ≡ lacking ks l
     unfolding lacking

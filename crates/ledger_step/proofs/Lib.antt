@@ -8,10 +8,8 @@ pub mod PlaceSteps
 pub mod Places
 pub mod ReadLetters
 pub mod ReadsFixed
-pub mod Relend
 pub mod Rules
 pub mod Runs
-pub mod Share
 pub mod SoundParts
 pub mod StepSound
 pub mod TableChecks

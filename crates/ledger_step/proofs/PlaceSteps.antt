@@ -1,13 +1,12 @@
 -- How loops find a place and keep keys apart, one element at a time, for any table.
 --     distinct-step                       one element more keeps the keys distinct where its key is found at no place before it
---     Missed                              what holds where t elements are left of the n that are searched: no element passed has the key
---     at-start, at-miss, at-hit, at-end   it holds before the first turn, a turn keeps it, and what the loop answers is the place
-use Prim.Native.Nat.{ℕ, suc, ◌-◌, ◌<◌, ◌≤◌}
+--     Missed                              what holds of a loop that searches: no element passed has the key
+--     at-hit, at-end                      what the loop answers is the place
+use Prim.Native.Nat.{ℕ, suc, ◌-◌, ◌<◌}
 use mathlib.Core.Path.{◌≡◌, refl, sym, ap, ◌∙◌}
 use mathlib.Core.Bool.{Bool, true, false, not, ◌&&◌, ◌||◌, true≢false}
 use mathlib.Core.List.{List, [], ◌∷◌, ◌++◌, map, map-append}
 use native.Mathlib.Omega.{arith}
-use native.Mathlib.Decide.{dec_lt}
 use borrow.Author.Tests.{ltb-true, ltb-false, le-leb, lt-leb}
 use lib.Dec.{ltb, leb}
 use lib.ListN.{length, get_or, take}
@@ -75,20 +74,14 @@ module _ {X K : Type 0} (key : X → K) (eq : K → K → Bool) (blank : X) wher
     abbrev key_at : ℕ → Bool
     key_at i = eq (key (get_or l i blank)) k
 
-    abbrev pub Missed : ℕ → ℕ → Type 0
-    Missed n t = (t ≤ n) × ((i : ℕ) → i < n - t → key_at i ≡ false)
+    -- no element before a place has the key
+    abbrev pub Missed : ℕ → Type 0
+    Missed at = (i : ℕ) → i < at → key_at i ≡ false
 
-    pub at-start : (n : ℕ) → Missed n n
-    at-start n = (omega arith, λ i h. absurd (omega arith))
-
-    pub at-miss : (n t : ℕ) → Missed n (suc t) → key_at (n - suc t) ≡ false → Missed n t
-    at-miss n t f e =
-        (omega (arith, f.0), λ i h. elim (dec_lt i (n - suc t)) [ yes p ↦ f.1 i p | no p ↦ let q : i ≡ n - suc t = omega (arith, f.0) in ap key_at q ∙ e ])
-
-    pub at-hit : (n t : ℕ) → n ≡ length l → Missed n (suc t) → key_at (n - suc t) ≡ true → n - suc t ≡ place key eq blank k l
+    pub at-hit : (at : ℕ) → at < length l → Missed at → key_at at ≡ true → at ≡ place key eq blank k l
     unfolding place
-    at-hit n t size f e = sym (first_found key_at (length l) (n - suc t) (omega (arith, f.0, size)) f.1 e)
+    at-hit at h f e = sym (first_found key_at (length l) at h f e)
 
-    pub at-end : (n : ℕ) → n ≡ length l → Missed n 0 → n ≡ place key eq blank k l
+    pub at-end : (n : ℕ) → n ≡ length l → Missed n → n ≡ place key eq blank k l
     unfolding place
-    at-end n size f = size ∙ sym (first-none key_at (length l) (λ i h. f.1 i (omega (arith, size))))
+    at-end n size f = size ∙ sym (first-none key_at (length l) (λ i h. f i (omega (arith, size))))

@@ -1,16 +1,14 @@
 -- The reading rules of a ledger, by what they speak of: registries alone, rows alone, and both.
-use Prim.Native.Nat.{ℕ}
 use mathlib.Core.Path.{◌≡◌, refl}
 use mathlib.Core.Bool.{Bool, true, false, ◌&&◌}
-use mathlib.Core.List.{List, map}
+use mathlib.Core.List.{map}
 use lib.Dec.{eqb, leb}
-use lib.ListN.{length, take}
 use Rattle.codec.specs.Layout.{all}
 use Rattle.cesr.specs.Primitives.{eq_said}
 use Rattle.registry_state_credential.specs.CredentialStates.{well_credential}
 use Rattle.registry_laws.specs.Pairs.{key_of}
 use Rattle.ledger_step.specs.Tables.{distinct}
-use Rattle.ledger_step.specs.Ledgers.{Ledger, ids_of, eq_pair, holds, keeps_layout, keeps_rules, has_registry, zero_or_one, rules, registry_rules, row_rules, sound}
+use Rattle.ledger_step.specs.Ledgers.{Ledger, ids_of, eq_pair, holds, keeps_layout, keeps_rules, has_registry, zero_or_one, registry_rules, row_rules, sound}
 
 none_of : (a : Bool) → (a && false) ≡ false
 none_of true = refl

@@ -4,7 +4,6 @@
 --     distinct_append, has_more, has-find     keys
 --     find-map                                finding through a map that keeps the keys
 --     table_same                              a table is known by its keys and by what is found
-use Prim.Native.Nat.{suc}
 use mathlib.Core.Path.{◌≡◌, refl, sym, ap, ◌∙◌}
 use mathlib.Core.Logic.{◌≢◌}
 use mathlib.Core.Bool.{Bool, true, false, cond, not, ◌||◌, true≢false, false≢true}
@@ -200,7 +199,7 @@ module _ {X K : Type 0} (key : X → K) (eq : K → K → Bool) where
         first a l = rw (test.same (key a))
 
         head : x ≡ y
-        head = some-injective _ _ (sym (first x xs) ∙ h (key x) ∙ rw heads (first y ys))
+        head = some-injective _ _ (sym (first x xs) ∙ h (key x) ∙ ap (λ (k : K). find key eq k (y ∷ ys)) heads ∙ first y ys)
 
         fresh : has eq (key x) (map key xs) ≡ false
         fresh = not-true (has eq (key x) (map key xs)) (and_left (not (has eq (key x) (map key xs))) (distinct eq (map key xs)) d)

@@ -1,3 +1,5 @@
 // The ledger, its step and its look-up as definitions, and the claim about two orders (docs/RULES.md, "Ledger", "Two orders"): specs/ and proofs/. The only code
 // is what the functions over lent slices share.
+#![tactic(auto)]
+
 pub mod number;

@@ -5,11 +5,9 @@
 --     ingest-judged              the outcome of bytes, from that of a decoded attempt: an accepted one leaves a state with the letters and bytes of its places
 use Prim.Native.Nat.{ℕ, ◌≤◌}
 use mathlib.Core.Path.{◌≡◌, refl, sym, ap, subst, ◌∙◌}
-use mathlib.Core.List.{List, [], ◌∷◌}
+use mathlib.Core.List.{List}
 use mathlib.Core.Bool.{Bool, true, false, not, cond, ◌&&◌, false≢true}
 use lib.ListN.{length}
-use types.Run.{OneOf, miss}
-use denote.Enum.Declared.{tag_of}
 use borrow.Author.Tests.{leb-true}
 use Rattle.cesr.specs.Primitives.{eq_said}
 use Rattle.cesr_sn.specs.declared.Sn.{Sn}
@@ -19,9 +17,8 @@ use Rattle.events_tel.specs.Configs.{no_backers}
 use Rattle.events_tel.specs.TelEvents.{Event, event_as}
 use Rattle.events_tel.specs.TelEvents.Event.{vcp, vrt, iss, rev, bis, brv}
 use Rattle.events_tel.specs.declared.Kind.{Kind}
-use Rattle.events_tel.specs.declared.Kind.TheVariants.{Vcp, Vrt, Iss, Rev, Bis, Brv}
+use Rattle.events_tel.specs.declared.Kind.TheVariants.{Vcp, Vrt}
 use Rattle.events_tel.specs.declared.TelEvent.{TelEvent}
-use Rattle.events_tel.specs.contracts.Kind.{the_type}
 use Rattle.codec.specs.Layout.{good_event}
 use Rattle.registry_state.specs.States.{Registry, view_registry, well_registry}
 use Rattle.registry_state.specs.declared.RegistryState.{RegistryState}
@@ -101,13 +98,10 @@ refused-ingested s g a r x e f h =
     { outcome = rw (e, f) (ingest-refused (view_registry g) (view_attempt s a) (Rejected x) (sym h) refl); kept = λ k. f; counts = λ k. absurd (false≢true (sym no ∙ k)) }
 
 -- the kinds that a match on a vcp and a vrt leaves over
-pub other-kind : (g : Registry) (s : List ℕ) (k : Kind) (e : TelEvent) (m : Message) → OneOf (2 ∷ 3 ∷ 4 ∷ 5 ∷ []) (tag_of the_type k) → ingest_event g (event_as s k e) m ≡ Rejected NotManagementRotation
-other-kind g s Vcp e m h = absurd (miss (2 ∷ 3 ∷ 4 ∷ 5 ∷ []) 0 tt h)
-other-kind g s Vrt e m h = absurd (miss (2 ∷ 3 ∷ 4 ∷ 5 ∷ []) 1 tt h)
-other-kind g s Iss e m h = refl
-other-kind g s Rev e m h = refl
-other-kind g s Bis e m h = refl
-other-kind g s Brv e m h = refl
+pub other-kind : (g : Registry) (s : List ℕ) (k : Kind) (e : TelEvent) (m : Message) → (k ≡ Vcp → ⊥) → (k ≡ Vrt → ⊥) → ingest_event g (event_as s k e) m ≡ Rejected NotManagementRotation
+other-kind g s Vcp e m h h' = absurd (h refl)
+other-kind g s Vrt e m h h' = absurd (h' refl)
+other-kind g s _ e m h h' = refl
 
 ingest-lettered-by : (g : Registry) (e : Event) (m : Message) → Lettered g → good_event e ≡ true → accepts (ingest_event g e m) ≡ true → Lettered (rotated g e)
 ingest-lettered-by g (vcp said issuer toad configs backers) m l k h = absurd (false≢true h)

@@ -33,7 +33,7 @@ use registry_verification::sequence::next_sn;
 use registry_wire::Attempt;
 
 // The members after a rotation, where its lists, its toad and its receipts pass.
-#[derive(Drop)]
+#[derive(Clone, Copy)]
 struct Rotation {
     answer: Answer,
     backers: Members,

@@ -1,2 +1,4 @@
 // Answers, and the order of checks (docs/RULES.md, "Orders").
+#![tactic(auto)]
+
 pub mod answer;

@@ -1,2 +1,4 @@
 // Who an attempt's event comes from: issuers and anchoring events (docs/RULES.md, "Evidence", "Anchoring events").
+#![tactic(auto)]
+
 pub mod issuer;

@@ -1,2 +1,4 @@
 // The authority of a bis or brv (docs/RULES.md, "Evidence").
+#![tactic(auto)]
+
 pub mod backer;

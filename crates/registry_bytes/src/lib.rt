@@ -1,2 +1,4 @@
 // States, written to lent bytes (docs/RULES.md, "Bytes").
+#![tactic(auto)]
+
 pub mod writer;

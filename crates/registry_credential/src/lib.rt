@@ -1,10 +1,12 @@
 // The status of a credential.
+#![tactic(auto)]
+
 pub mod credential;
 
 use registry_credential_error::CredentialError;
 
 // What `status` answers: its input comes as bytes, so they may be malformed.
-#[derive(Drop)]
+#[derive(Clone, Copy)]
 pub enum StatusOutcome {
     Accepted,
     Malformed,
@@ -12,5 +14,5 @@ pub enum StatusOutcome {
 }
 
 // A pure verifier: no storage, no network and no clock.
-#[derive(Drop)]
+#[derive(Clone, Copy)]
 pub struct CredentialVerifier;

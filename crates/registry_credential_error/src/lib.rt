@@ -1,8 +1,10 @@
 // The refusals of a credential's status.
+#![tactic(auto)]
+
 pub mod credential_error;
 
 // The refusals of a credential's status.
-#[derive(Drop)]
+#[derive(Clone, Copy)]
 pub enum CredentialError {
     MissingRegistry,
     MissingCredentialState,

@@ -8,8 +8,6 @@ use mathlib.Core.Path.{◌≡◌, refl, sym, ap, ◌∙◌}
 use mathlib.Core.List.{List, [], ◌∷◌}
 use mathlib.Core.Bool.{Bool, true, false, ◌&&◌}
 use lib.Dec.{eqb}
-use types.Run.{OneOf, miss}
-use denote.Enum.Declared.{tag_of}
 use Rattle.laws.proofs.Tests.{and_left, and_right}
 use Rattle.cesr.specs.Primitives.{read_matter, said_at, eq_said}
 use Rattle.cesr.specs.declared.Said.{Said}
@@ -18,7 +16,6 @@ use Rattle.events_seal.specs.declared.Seal.{Seal}
 use Rattle.events_tel.specs.declared.Kind.{Kind}
 use Rattle.events_tel.specs.declared.Kind.TheVariants.{Vcp, Vrt, Iss, Rev, Bis, Brv}
 use Rattle.events_tel.specs.declared.TelEvent.{TelEvent}
-use Rattle.events_tel.specs.contracts.Kind.{the_type}
 use Rattle.registry_state.specs.States.{Registry, read_registry}
 use Rattle.registry_state_credential.specs.declared.CredentialState.{CredentialState}
 use Rattle.registry_wire.specs.Attempts.{Message, view_attempt, view_decoded, decode_of}
@@ -88,13 +85,10 @@ module _ (g : Registry) (said credential : Said) (m : Message) where
       brv-backed z y f = f ∙ sym (brv-passed ∙ first-accepted anchor (authority ∷ []) (ap accepts (sym e) ∙ z) ∙ first-last authority)
 
 -- the kinds that a match on a rev and a brv leaves over
-pub other-kind : (g : Registry) (s : List ℕ) (k : Kind) (e : TelEvent) (m : Message) → OneOf (0 ∷ 1 ∷ 2 ∷ 4 ∷ []) (tag_of the_type k) → Rejected NotCredentialTransition ≡ event_resolved g (event_as s k e) m
-other-kind g s Vcp e m h = refl
-other-kind g s Vrt e m h = refl
-other-kind g s Iss e m h = refl
-other-kind g s Rev e m h = absurd (miss (0 ∷ 1 ∷ 2 ∷ 4 ∷ []) 3 tt h)
-other-kind g s Bis e m h = refl
-other-kind g s Brv e m h = absurd (miss (0 ∷ 1 ∷ 2 ∷ 4 ∷ []) 5 tt h)
+pub other-kind : (g : Registry) (s : List ℕ) (k : Kind) (e : TelEvent) (m : Message) → (k ≡ Rev → ⊥) → (k ≡ Brv → ⊥) → Rejected NotCredentialTransition ≡ event_resolved g (event_as s k e) m
+other-kind g s Rev e m h h' = absurd (h refl)
+other-kind g s Brv e m h h' = absurd (h' refl)
+other-kind g s _ e m h h' = refl
 
 module _ (fit held : Bool) (g : Registry) (m : Message) where
   pub unfit : fit ≡ false → Rejected Malformed ≡ ingest_resolved fit held g m

@@ -1,11 +1,13 @@
 // What the sender of an attempt that is turned down is to do (docs/RULES.md, "Refusals").
+#![tactic(auto)]
+
 ghost use Rattle.std.specs.Prelude.{◌≡◌};
 ghost use Rattle.registry_disposition.specs.Dispositions.{out_of_order, letter_of};
 
 use cesr_sn::Sn;
 
 // The evidence whose arrival makes an attempt acceptable.
-#[derive(Drop)]
+#[derive(Clone, Copy)]
 pub enum EvidenceKind {
     CredentialTelState,
     RegistryState,
@@ -17,7 +19,7 @@ pub enum EvidenceKind {
 }
 
 // What to do with an attempt: drop it or report it; compare it with what is recorded; keep it and try again.
-#[derive(Drop)]
+#[derive(Clone, Copy)]
 pub enum Disposition {
     Terminal,
     Contested,

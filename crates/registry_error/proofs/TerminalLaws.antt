@@ -1,47 +1,32 @@
--- A refusal that is terminal, which the code tells by its tag.
---     terminal-by-tag   every other tag than those of the refusals that are contested or await evidence
+-- A refusal that is terminal, which the code tells by its being none of those that are contested or await evidence.
+--     terminal-otherwise   every other refusal is terminal
 use Prim.Native.Nat.{ℕ}
 use mathlib.Core.Path.{◌≡◌, refl}
-use mathlib.Core.List.{List, [], ◌∷◌}
-use types.Run.{OneOf, miss}
-use denote.Enum.Declared.{tag_of}
+use Rattle.cesr_sn.specs.declared.Sn.{Sn}
 use Rattle.registry_disposition.specs.declared.Disposition.TheVariants.{Terminal}
-use Rattle.registry_error.specs.contracts.RegistryRejection.{the_type}
 use Rattle.registry_error.specs.declared.RegistryRejection.{RegistryRejection}
 use Rattle.registry_error.specs.declared.RegistryRejection.TheVariants as R
 use Rattle.registry_error.specs.Errors.{disposition_of}
 
-abbrev terminal : List ℕ
-terminal = 0 ∷ 5 ∷ 6 ∷ 7 ∷ 8 ∷ 9 ∷ 10 ∷ 11 ∷ 12 ∷ 13 ∷ 14 ∷ 16 ∷ 18 ∷ 20 ∷ 21 ∷ 23 ∷ 24 ∷ 25 ∷ 27 ∷ 28 ∷ 29 ∷ []
-
-pub terminal-by-tag : (r : RegistryRejection) → OneOf terminal (tag_of the_type r) → Terminal ≡ disposition_of r
-terminal-by-tag R.Malformed k = refl
-terminal-by-tag R.MissingRegistry k = absurd (miss terminal 1 tt k)
-terminal-by-tag R.DuplicateInception k = absurd (miss terminal 2 tt k)
-terminal-by-tag R.AlreadyIssued k = absurd (miss terminal 3 tt k)
-terminal-by-tag R.MissingCredentialState k = absurd (miss terminal 4 tt k)
-terminal-by-tag R.NotRegistryInception k = refl
-terminal-by-tag R.NotManagementRotation k = refl
-terminal-by-tag R.NotCredentialInception k = refl
-terminal-by-tag R.NotCredentialTransition k = refl
-terminal-by-tag R.InconsistentRegistry k = refl
-terminal-by-tag R.NoBackersWithBackers k = refl
-terminal-by-tag R.SimpleEventOnBackerRegistry k = refl
-terminal-by-tag R.BackedEventOnBackerlessRegistry k = refl
-terminal-by-tag R.RotationOnBackerlessRegistry k = refl
-terminal-by-tag R.SequenceNumberOverflow k = refl
-terminal-by-tag (R.OutOfOrder e a) k = absurd (miss terminal 15 tt k)
-terminal-by-tag R.PriorDigestMismatch k = refl
-terminal-by-tag R.MissingIssuer k = absurd (miss terminal 17 tt k)
-terminal-by-tag R.InconsistentIssuer k = refl
-terminal-by-tag R.MissingAnchor k = absurd (miss terminal 19 tt k)
-terminal-by-tag R.InconsistentAnchor k = refl
-terminal-by-tag R.InconsistentManagement k = refl
-terminal-by-tag (R.UnresolvedAnchor s) k = absurd (miss terminal 22 tt k)
-terminal-by-tag (R.BackerSet r i) k = refl
-terminal-by-tag R.TooManyBackers k = refl
-terminal-by-tag R.BackerThreshold k = refl
-terminal-by-tag (R.MissingBackerReceipts v q) k = absurd (miss terminal 26 tt k)
-terminal-by-tag R.InconsistentCredential k = refl
-terminal-by-tag R.NoRoom k = refl
-terminal-by-tag R.ShortBuffer k = refl
+pub terminal-otherwise :
+    (r : RegistryRejection) →
+    (r ≡ R.MissingRegistry → ⊥) →
+    (r ≡ R.DuplicateInception → ⊥) →
+    (r ≡ R.AlreadyIssued → ⊥) →
+    (r ≡ R.MissingCredentialState → ⊥) →
+    ((x y : Sn) → r ≡ R.OutOfOrder x y → ⊥) →
+    (r ≡ R.MissingIssuer → ⊥) →
+    (r ≡ R.MissingAnchor → ⊥) →
+    ((x : Sn) → r ≡ R.UnresolvedAnchor x → ⊥) →
+    ((x y : ℕ) → r ≡ R.MissingBackerReceipts x y → ⊥) →
+    Terminal ≡ disposition_of r
+terminal-otherwise R.MissingRegistry a b c d e f g h i = absurd (a refl)
+terminal-otherwise R.DuplicateInception a b c d e f g h i = absurd (b refl)
+terminal-otherwise R.AlreadyIssued a b c d e f g h i = absurd (c refl)
+terminal-otherwise R.MissingCredentialState a b c d e f g h i = absurd (d refl)
+terminal-otherwise (R.OutOfOrder x y) a b c d e f g h i = absurd (e x y refl)
+terminal-otherwise R.MissingIssuer a b c d e f g h i = absurd (f refl)
+terminal-otherwise R.MissingAnchor a b c d e f g h i = absurd (g refl)
+terminal-otherwise (R.UnresolvedAnchor x) a b c d e f g h i = absurd (h x refl)
+terminal-otherwise (R.MissingBackerReceipts x y) a b c d e f g h i = absurd (i x y refl)
+terminal-otherwise _ a b c d e f g h i = refl

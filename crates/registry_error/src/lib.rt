@@ -1,11 +1,13 @@
 // Why an attempt is turned down.
+#![tactic(auto)]
+
 pub mod error;
 
 use cesr_sn::Sn;
 use events::Rule;
 
 // Each refusal of an attempt, with its details.
-#[derive(Drop)]
+#[derive(Clone, Copy)]
 pub enum RegistryRejection {
     Malformed,
     MissingRegistry,
@@ -39,7 +41,7 @@ pub enum RegistryRejection {
     ShortBuffer,
 }
 
-#[derive(Drop)]
+#[derive(Clone, Copy)]
 pub enum Answer {
     Accepted,
     Rejected(RegistryRejection),

@@ -7,12 +7,10 @@
 --     incept-lettered    an accepted attempt leaves a state with the letters and bytes of its places
 use Prim.Native.Nat.{ℕ}
 use mathlib.Core.Path.{◌≡◌, refl, ap, sym, ◌∙◌}
-use mathlib.Core.List.{List, [], ◌∷◌}
+use mathlib.Core.List.{List}
 use mathlib.Core.Bool.{Bool, true, false, ◌&&◌, false≢true}
 use lib.Dec.{leb}
 use lib.ListN.{length}
-use types.Run.{OneOf, miss}
-use denote.Enum.Declared.{tag_of}
 use Rattle.laws.specs.Number.{Bytes}
 use Rattle.laws.proofs.Tests.{and_left}
 use Rattle.events_tel.specs.TelEvents.{Event, event_as, view_event}
@@ -20,7 +18,6 @@ use Rattle.events_tel.specs.TelEvents.Event.{vcp, vrt, iss, rev, bis, brv}
 use Rattle.events_tel.specs.declared.Kind.{Kind}
 use Rattle.events_tel.specs.declared.Kind.TheVariants.{Vcp, Vrt, Iss, Rev, Bis, Brv}
 use Rattle.events_tel.specs.declared.TelEvent.{TelEvent}
-use Rattle.events_tel.specs.contracts.Kind.{the_type}
 use Rattle.codec.specs.Layout.{all, good_event}
 use Rattle.registry_state.specs.States.{Registry, no_registry}
 use Rattle.registry_source.specs.Sources.{good_source}
@@ -46,13 +43,9 @@ good-event m g =
     and_left (good_event m.event) ((leb (length m.source) 1 && all good_source m.source) && (good_anchors m.anchor && ((leb (length m.signatures) 64 && all good_signature m.signatures) && good_evidence m.evidence))) g
 
 -- the kinds that a match on a vcp leaves over
-pub other-kind : (s : List ℕ) (k : Kind) (e : TelEvent) (m : Message) → OneOf (1 ∷ 2 ∷ 3 ∷ 4 ∷ 5 ∷ []) (tag_of the_type k) → Rejected NotRegistryInception ≡ incept_event (event_as s k e) m
-other-kind s Vcp e m h = absurd (miss (1 ∷ 2 ∷ 3 ∷ 4 ∷ 5 ∷ []) 0 tt h)
-other-kind s Vrt e m h = refl
-other-kind s Iss e m h = refl
-other-kind s Rev e m h = refl
-other-kind s Bis e m h = refl
-other-kind s Brv e m h = refl
+pub other-kind : (s : List ℕ) (k : Kind) (e : TelEvent) (m : Message) → (k ≡ Vcp → ⊥) → Rejected NotRegistryInception ≡ incept_event (event_as s k e) m
+other-kind s Vcp e m h = absurd (h refl)
+other-kind s _ e m h = refl
 
 -- t is the code's test whether the kind of evidence x is an issuer's
 module _ (fit : Bool) (m : Message) where

@@ -1,4 +1,6 @@
 // The first event of a registry: from an attempt to a refusal or to the first state (docs/RULES.md, "Orders").
+#![tactic(auto)]
+
 pub mod registry;
 
 use events_tel::{Configs, Listed};
@@ -7,14 +9,14 @@ use registry_error::Answer;
 use registry_state::RegistryState;
 
 // An answer, and the state behind it: the next one, or after a refusal the one that was handed in. Where none is handed in it is blank.
-#[derive(Drop)]
+#[derive(Clone, Copy)]
 pub struct RegistryOutcome {
     pub answer: Answer,
     pub state: RegistryState,
 }
 
 // An answer to an inception, and what its state is made of: values, and places in the attempt's bytes. They mean something where the answer accepts.
-#[derive(Drop)]
+#[derive(Clone, Copy)]
 pub struct Inception {
     pub answer: Answer,
     pub said: usize,

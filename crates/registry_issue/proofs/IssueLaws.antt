@@ -9,8 +9,6 @@ use mathlib.Core.Path.{◌≡◌, refl, sym, ap, ◌∙◌}
 use mathlib.Core.List.{List, [], ◌∷◌}
 use mathlib.Core.Bool.{Bool, true, false, cond, ◌&&◌, false≢true}
 use lib.Dec.{eqb}
-use types.Run.{OneOf, miss}
-use denote.Enum.Declared.{tag_of}
 use Rattle.laws.proofs.Tests.{and_left, and_right}
 use Rattle.registry_signatures.specs.SignatureSections.{signatures_in}
 use Rattle.registry_state.specs.States.{Registry, read_registry}
@@ -33,7 +31,6 @@ use Rattle.events_tel.specs.TelEvents.{sn_zero, event_as, view_event}
 use Rattle.events_tel.specs.declared.Kind.{Kind}
 use Rattle.events_tel.specs.declared.Kind.TheVariants.{Vcp, Vrt, Iss, Rev, Bis, Brv}
 use Rattle.events_tel.specs.declared.TelEvent.{TelEvent}
-use Rattle.events_tel.specs.contracts.Kind.{the_type}
 use Rattle.events_seal.specs.declared.Seal.{Seal}
 use Rattle.registry_error.specs.declared.Answer.{Answer}
 use Rattle.registry_error.specs.declared.Answer.TheVariants.{Rejected}
@@ -82,13 +79,10 @@ module _ (g : Registry) (said credential registry : Said) (m : Message) where
     bis-backed h k x y e z f = f ∙ sym (bis-passed h k ∙ first-accepted anchor (authority ∷ []) (ap accepts (sym e) ∙ z) ∙ first-last authority)
 
 -- the kinds that a match on an iss and a bis leaves over
-pub other-kind : (g : Registry) (s : List ℕ) (k : Kind) (e : TelEvent) (m : Message) → OneOf (0 ∷ 1 ∷ 3 ∷ 5 ∷ []) (tag_of the_type k) → Rejected NotCredentialInception ≡ event_resolved g (event_as s k e) m
-other-kind g s Vcp e m h = refl
-other-kind g s Vrt e m h = refl
-other-kind g s Iss e m h = absurd (miss (0 ∷ 1 ∷ 3 ∷ 5 ∷ []) 2 tt h)
-other-kind g s Rev e m h = refl
-other-kind g s Bis e m h = absurd (miss (0 ∷ 1 ∷ 3 ∷ 5 ∷ []) 4 tt h)
-other-kind g s Brv e m h = refl
+pub other-kind : (g : Registry) (s : List ℕ) (k : Kind) (e : TelEvent) (m : Message) → (k ≡ Iss → ⊥) → (k ≡ Bis → ⊥) → Rejected NotCredentialInception ≡ event_resolved g (event_as s k e) m
+other-kind g s Iss e m h h' = absurd (h refl)
+other-kind g s Bis e m h h' = absurd (h' refl)
+other-kind g s _ e m h h' = refl
 
 module _ (fit : Bool) (g : Registry) (m : Message) where
   pub unfit : fit ≡ false → Rejected Malformed ≡ incept_resolved fit g m

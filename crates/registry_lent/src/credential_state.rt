@@ -11,7 +11,7 @@ use registry_state::RegistryState;
 use registry_state_credential::CredentialState;
 
 // What a fold says of a lent state: the sn and head to store, and the answer. After a refusal they are the old ones, so they are stored without a test.
-#[derive(Drop)]
+#[derive(Clone, Copy)]
 struct Changes {
     sn: Sn,
     head: Said,

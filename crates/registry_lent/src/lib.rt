@@ -1,2 +1,4 @@
 // The folds on states that are lent (docs/RULES.md, "Forms").
+#![tactic(auto)]
+
 pub mod credential_state;

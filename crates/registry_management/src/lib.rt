@@ -1,4 +1,6 @@
 // A registry's state without its list of backers, for the events of its credentials (docs/RULES.md, "Evidence").
+#![tactic(auto)]
+
 ghost use Rattle.std.specs.Prelude.{◌≡◌};
 ghost use Rattle.events.specs.Members.{view};
 ghost use Rattle.registry_state.specs.States.{view_registry, read_registry};
@@ -12,7 +14,7 @@ use events_tel::{Configs, Listed};
 use events_toad::Toad;
 use registry_state::RegistryState;
 
-#[derive(Drop)]
+#[derive(Clone, Copy)]
 pub struct Management {
     pub id: Said,
     // An identifier.
@@ -25,7 +27,7 @@ pub struct Management {
 }
 
 // The backers stay in the bytes.
-#[derive(Drop)]
+#[derive(Clone, Copy)]
 pub struct ManagementRead {
     pub value: Management,
     pub backers: Listed,

@@ -1,4 +1,6 @@
 // What the next state of a registry is made of, and the room that it takes (docs/RULES.md, "Next states").
+#![tactic(auto)]
+
 pub mod next;
 
 use cesr_sn::Sn;
@@ -6,7 +8,7 @@ use events_tel::{Configs, Listed};
 use events_toad::Toad;
 
 // What a next state is made of: values, and places in two slices, the held bytes and the attempt's.
-#[derive(Drop)]
+#[derive(Clone, Copy)]
 pub struct NextState {
     // Places in the held bytes.
     pub id: usize,

@@ -1,7 +1,7 @@
 -- A seal section whose one seal is compared where it stands.
 --     in_place    the comparison is that of the seal that is read there
 use Prim.Native.Nat.{ℕ}
-use mathlib.Core.Path.{◌≡◌, refl, sym}
+use mathlib.Core.Path.{◌≡◌, refl}
 use mathlib.Core.List.{List}
 use mathlib.Core.Bool.{Bool, true, false, cond, ◌&&◌}
 use lib.Dec.{eqb}
@@ -11,7 +11,6 @@ use Rattle.cesr.specs.Primitives.{read_matter, eq_matter}
 use Rattle.cesr_sn.specs.declared.Sn.{Sn}
 use Rattle.cesr.specs.declared.Matter.{Matter}
 use Rattle.cesr.specs.declared.Said.{Said}
-use Rattle.events_seal.specs.declared.Seal.{Seal}
 use Rattle.events_seal.specs.declared.Seal.TheVariants.{Digest, Root, Source as SourceSeal, Last, Back, Kind, Opaque}
 use Rattle.events_seal.proofs.Identifiers.{matter-identifier}
 use Rattle.codec_cursor.specs.declared.Cursor.{Cursor}

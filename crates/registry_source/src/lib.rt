@@ -1,4 +1,6 @@
 // The source that an attempt states (docs/RULES.md, "Bytes").
+#![tactic(auto)]
+
 ghost use Rattle.std.specs.Prelude.{◌≡◌};
 ghost use Rattle.codec_cursor.specs.Readers.{section};
 ghost use Rattle.registry_source.specs.Sources.{read_source, view_sources};
@@ -9,14 +11,14 @@ use codec::section::count_up_to;
 use codec_cursor::Cursor;
 
 // The sn and the said of the anchoring event, as the attempt states them.
-#[derive(Drop)]
+#[derive(Clone, Copy)]
 pub struct Source {
     pub sn: Sn,
     pub said: Said,
 }
 
 // How many sources a section has, where its source stands, and the cursor behind it.
-#[derive(Drop)]
+#[derive(Clone, Copy)]
 pub struct SourcesRead {
     pub count: usize,
     pub source: Cursor,

@@ -1,4 +1,6 @@
 // The state of a registry, as a value and as bytes (docs/RULES.md, "Bytes").
+#![tactic(auto)]
+
 pub mod state;
 
 use cesr::{Matter, Said};
@@ -9,7 +11,7 @@ use events_tel::Configs;
 use events_toad::Toad;
 
 #[repr(C)]
-#[derive(Drop)]
+#[derive(Clone, Copy)]
 pub struct RegistryState {
     pub id: Said,
     // An identifier.
@@ -22,7 +24,7 @@ pub struct RegistryState {
     pub backers: Members,
 }
 
-#[derive(Drop)]
+#[derive(Clone, Copy)]
 pub struct RegistryRead {
     pub value: RegistryState,
     pub next: Cursor,

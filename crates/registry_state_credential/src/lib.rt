@@ -1,4 +1,6 @@
 // The state of a credential: read, written, held to its limits.
+#![tactic(auto)]
+
 pub mod state;
 
 use cesr::Said;
@@ -6,7 +8,7 @@ use cesr_sn::Sn;
 use codec_cursor::Cursor;
 
 #[repr(C)]
-#[derive(Drop)]
+#[derive(Clone, Copy)]
 pub struct CredentialState {
     pub registry: Said,
     pub credential: Said,
@@ -15,14 +17,14 @@ pub struct CredentialState {
     pub head: Said,
 }
 
-#[derive(Drop)]
+#[derive(Clone, Copy)]
 pub struct CredentialRead {
     pub value: CredentialState,
     pub next: Cursor,
 }
 
 // A state that stays in its bytes: where its digests stand, and its sn.
-#[derive(Drop)]
+#[derive(Clone, Copy)]
 pub struct CredentialAt {
     pub registry: usize,
     pub credential: usize,

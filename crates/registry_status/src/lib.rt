@@ -1,4 +1,6 @@
 // The input of `status` (docs/RULES.md, "Bytes").
+#![tactic(auto)]
+
 pub mod status;
 
 use cesr::{Matter, Said};
@@ -6,7 +8,7 @@ use registry_state::RegistryState;
 use registry_state_credential::CredentialState;
 
 // The input of `status`: a credential, and what is known about it. Each of the three counts is 0 or 1; where it is 0, what it counts is blank.
-#[derive(Drop)]
+#[derive(Clone, Copy)]
 pub struct StatusInput {
     pub said: Said,
     // An identifier.
@@ -24,7 +26,7 @@ pub struct StatusInput {
 }
 
 // What the decoder answers. Where the bytes are malformed the input means nothing.
-#[derive(Drop)]
+#[derive(Clone, Copy)]
 pub struct DecodedStatus {
     pub ok: bool,
     pub input: StatusInput,

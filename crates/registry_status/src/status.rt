@@ -9,35 +9,35 @@ use codec_cursor::Cursor;
 use registry_state::RegistryState;
 use registry_state_credential::CredentialState;
 
-#[derive(Drop)]
+#[derive(Clone, Copy)]
 struct ReferenceRead {
     reference: u8,
     said: Said,
     next: Cursor,
 }
 
-#[derive(Drop)]
+#[derive(Clone, Copy)]
 struct RegistriesRead {
     count: usize,
     registry: RegistryState,
     next: Cursor,
 }
 
-#[derive(Drop)]
+#[derive(Clone, Copy)]
 struct CredentialsRead {
     count: usize,
     credential: CredentialState,
     next: Cursor,
 }
 
-#[derive(Drop)]
+#[derive(Clone, Copy)]
 struct IssuersRead {
     count: usize,
     issuer: Matter,
     next: Cursor,
 }
 
-#[derive(Drop)]
+#[derive(Clone, Copy)]
 struct StatusRead {
     value: StatusInput,
     next: Cursor,

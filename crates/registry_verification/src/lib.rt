@@ -1,3 +1,5 @@
 // Receipts, and the place of an event behind a state.
+#![tactic(auto)]
+
 pub mod sequence;
 pub mod verification;

@@ -1,4 +1,6 @@
 // The bytes around an event: sections 7 to 10, and whole attempts (docs/RULES.md, "Bytes").
+#![tactic(auto)]
+
 ghost use Rattle.std.specs.Prelude.{◌≡◌, true};
 ghost use Rattle.registry_wire.specs.Attempts.{read_anchor, read_issuer, read_backer_at, read_evidence, passed_anchors, part_of, Holds, ReadAs, view_decoded, decode_of};
 
@@ -13,14 +15,14 @@ use registry_source::pass_sources;
 use registry_state::RegistryState;
 
 // A part of the attempt's bytes. An empty one stands for nothing.
-#[derive(Drop)]
+#[derive(Clone, Copy)]
 pub struct Part {
     pub from: usize,
     pub to: usize,
 }
 
 // All but numbers and the event's own seal stays in the bytes, and the attempt says where it stands.
-#[derive(Drop)]
+#[derive(Clone, Copy)]
 pub struct Attempt {
     pub event: TelEvent,
     // 0 or 1, and where the source stands where it is 1.
@@ -38,20 +40,20 @@ pub struct Attempt {
 }
 
 // What the decoder answers. Where the bytes are malformed the attempt means nothing.
-#[derive(Drop)]
+#[derive(Clone, Copy)]
 pub struct DecodedAttempt {
     pub ok: bool,
     pub attempt: Attempt,
 }
 
-#[derive(Drop)]
+#[derive(Clone, Copy)]
 struct AnchorsRead {
     value: Part,
     next: Cursor,
 }
 
 // Evidence, in the fields of an attempt. Those that its kind has no use for are blank.
-#[derive(Drop)]
+#[derive(Clone, Copy)]
 struct EvidenceRead {
     kind: u8,
     issuer: usize,

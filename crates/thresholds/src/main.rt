@@ -1,6 +1,8 @@
 // Reads lines such as `exact 2 1 26` and `ample 69 0 46`, a call and its answer, and says how many answers are those that
 // `Toad::exact` and `Toad::ample` give. After `exact` stand a threshold, a count and the refusal's number; after `ample` a count, the
 // refusal's number and the threshold, or `-` where there is none.
+#![tactic(auto)]
+
 mod text;
 
 ghost use Rattle.std.specs.Prelude.{◌≡◌};
@@ -11,7 +13,7 @@ use libc::{STDIN_FILENO, STDOUT_FILENO};
 use text::Decimal;
 
 // What is found of a line.
-#[derive(Drop)]
+#[derive(Clone, Copy)]
 enum Verdict {
     // Whether the answer is what the call gives.
     Exact(bool),
@@ -20,7 +22,7 @@ enum Verdict {
     Unread,
 }
 
-#[derive(Drop)]
+#[derive(Clone, Copy)]
 struct Tally {
     exact: u64,
     exact_agree: u64,

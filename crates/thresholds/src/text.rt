@@ -4,7 +4,7 @@ ghost use Rattle.laws.specs.Words.{same_list};
 ghost use Rattle.thresholds.specs.Texts.{place_of, head_of, rest_of, none, with_digit, number_of};
 
 // A number that was read, or none.
-#[derive(Drop)]
+#[derive(Clone, Copy)]
 pub struct Decimal {
     pub ok: bool,
     pub value: u64,

@@ -1,0 +1,4 @@
+use Rattle.cesr.proofs.Said.read.Goals as goal
+
+pub returns : goal.returns
+returns c = rw c.read.ensures

@@ -1,0 +1,12 @@
+use Rattle.codec_cursor.specs.Readers.{count_up_to}
+use Rattle.codec.proofs.section.count_up_to.Goals as goal
+
+pub returns-then-next : goal.returns-then-next
+unfolding count_up_to
+returns-then-next c =
+    rw (← c.byte-b.ensures, ← c.expect_that-next.ensures, c.if-next.true)
+
+pub returns : goal.returns
+unfolding count_up_to
+returns c =
+    rw (← c.byte-b.ensures, ← c.expect_that-next.ensures, c.if-next.false)

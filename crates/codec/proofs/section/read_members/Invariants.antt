@@ -1,0 +1,14 @@
+use Prim.Native.Nat.{◌≤◌, ◌-◌}
+use mathlib.Core.Path.{◌≡◌}
+use mathlib.Core.List.{List}
+use lib.ListN.{length, take}
+use Rattle.cesr.specs.declared.BasicPrefix.{BasicPrefix}
+use Rattle.codec_cursor.specs.Readers.{Read, read_prefix, times}
+use Rattle.codec.proofs.section.read_members.Given as goal
+
+abbrev pub invariant-loop-i : goal.invariant-loop-i
+invariant-loop-i l =
+    (l.i ≤ l.count) × (length l.items ≡ 16) × (◌≡◌ {A = Read (List BasicPrefix)} (record { value = take l.i l.items; next = l.next }) (times l.i read_prefix l.s l.initial.next))
+
+abbrev pub decreases-loop-i : goal.decreases-loop-i
+decreases-loop-i l = l.count - l.i

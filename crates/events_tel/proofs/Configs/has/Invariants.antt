@@ -1,0 +1,11 @@
+use Prim.Native.Nat.{ℕ, ◌≤◌, ◌<◌, ◌-◌}
+use mathlib.Core.Path.{◌≡◌}
+use lib.ListN.{get_or}
+use Rattle.events_tel.specs.Configs.{view_configs}
+use Rattle.events_tel.proofs.Configs.has.Given as goal
+
+abbrev pub invariant-loop-i : goal.invariant-loop-i
+invariant-loop-i l = (l.i ≤ l.n) × ((k : ℕ) → k < l.i → get_or (view_configs l.self) k 0 ≡ l.code → ⊥)
+
+abbrev pub decreases-loop-i : goal.decreases-loop-i
+decreases-loop-i l = l.n - l.i

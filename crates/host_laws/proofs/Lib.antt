@@ -1,4 +1,0 @@
-pub mod LentCalls
-pub mod LentLedger
-pub mod ShownArrays
-pub mod ShownLedger

@@ -1,3 +1,0 @@
-pub mod HeldFields
-pub mod SpelledApplied
-pub mod SpelledRead

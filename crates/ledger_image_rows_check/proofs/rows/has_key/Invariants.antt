@@ -1,0 +1,13 @@
+use Prim.Native.Nat.{◌≤◌, ◌-◌}
+use mathlib.Core.Path.{◌≡◌}
+use Rattle.registry_laws.specs.Pairs.{key_of}
+use Rattle.ledger_step.specs.Tables.{has}
+use Rattle.ledger_step.specs.Ledgers.{eq_pair}
+use Rattle.ledger_image_rows_check.specs.RowTests.{keys_from}
+use Rattle.ledger_image_rows_check.proofs.rows.has_key.Given as goal
+
+abbrev pub invariant-loop-i : goal.invariant-loop-i
+invariant-loop-i l = (l.i ≤ l.n) × (l.found ≡ has eq_pair (key_of l.w) (keys_from l.s l.at l.i))
+
+abbrev pub decreases-loop-i : goal.decreases-loop-i
+decreases-loop-i l = l.n - l.i

@@ -1,3 +1,0 @@
-pub mod ArrayFields
-pub mod ArrayLoans
-pub mod Spelled

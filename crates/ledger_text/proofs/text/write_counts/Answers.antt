@@ -1,0 +1,59 @@
+use Prim.Native.Nat.{◌+◌, ◌≤◌}
+use mathlib.Core.Path.{◌≡◌, sym, ◌∙◌}
+use mathlib.Core.Bool.{true}
+use native.Mathlib.Omega.{arith}
+use borrow.Author.Tests.{leb-true, not-true, not-false}
+use lib.Dec.{leb}
+use lib.ListN.{length}
+use Rattle.ledger_text.specs.Lines.{last_line}
+use Rattle.ledger_text.proofs.LineLaws.{last-length, last-put, written, unwritten}
+use Rattle.ledger_text.proofs.text.write_counts.Goals as goal
+
+pub returns-then-not-has_room : goal.returns-then-not-has_room
+returns-then-not-has_room c =
+    let a = c.args in
+    let both = unwritten a.out.now (last_line a.registries a.credentials) _ (last-length _ _ _ _ c.places-p.ensures.value c.places-q.ensures.value) (sym c.has_room.ensures ∙ not-true _ c.if-not-has_room.true-raw) in record { value = both.0; upper_bound = both.1 }
+
+pub put_text-requires : goal.put_text-requires
+put_text-requires c =
+    let tested : (leb (0 + (c.places-p.result + c.places-q.result + 25)) (length c.args.out.now) ≡ true) =
+    sym c.has_room.ensures ∙ not-false _ c.if-not-has_room.false-raw in
+    let fits : (0 + (c.places-p.result + c.places-q.result + 25) ≤ length c.args.out.now) =
+    leb-true _ (length c.args.out.now) (tested) in
+    omega (arith, fits)
+
+pub put_number-requires : goal.put_number-requires
+put_number-requires c =
+    let tested : (leb (0 + (c.places-p.result + c.places-q.result + 25)) (length c.args.out.now) ≡ true) =
+    sym c.has_room.ensures ∙ not-false _ c.if-not-has_room.false-raw in
+    let fits : (0 + (c.places-p.result + c.places-q.result + 25) ≤ length c.args.out.now) =
+    leb-true _ (length c.args.out.now) (tested) in
+    record { k_value = c.places-p.ensures.value; k_in_bounds = omega (arith, fits, c.put_text.auto.out) }
+
+pub put_text-requires-2 : goal.put_text-requires-2
+put_text-requires-2 c =
+    let tested : (leb (0 + (c.places-p.result + c.places-q.result + 25)) (length c.args.out.now) ≡ true) =
+    sym c.has_room.ensures ∙ not-false _ c.if-not-has_room.false-raw in
+    let fits : (0 + (c.places-p.result + c.places-q.result + 25) ≤ length c.args.out.now) =
+    leb-true _ (length c.args.out.now) (tested) in
+    omega (arith, fits, c.put_text.auto.out, c.put_number.auto.out)
+
+pub put_number-requires-2 : goal.put_number-requires-2
+put_number-requires-2 c =
+    let tested : (leb (0 + (c.places-p.result + c.places-q.result + 25)) (length c.args.out.now) ≡ true) =
+    sym c.has_room.ensures ∙ not-false _ c.if-not-has_room.false-raw in
+    let fits : (0 + (c.places-p.result + c.places-q.result + 25) ≤ length c.args.out.now) =
+    leb-true _ (length c.args.out.now) (tested) in
+    record { k_value = c.places-q.ensures.value; k_in_bounds = omega (arith, fits, c.put_text.auto.out, c.put_number.auto.out, c.put_text-2.auto.out) }
+
+pub returns : goal.returns
+returns c =
+    let tested : (leb (0 + (c.places-p.result + c.places-q.result + 25)) (length c.args.out.now) ≡ true) =
+    sym c.has_room.ensures ∙ not-false _ c.if-not-has_room.false-raw in
+    let a = c.args in
+    let l = a.out.now in
+    let p = c.places-p.ensures.value in
+    let q = c.places-q.ensures.value in
+    let both = written l (last_line a.registries a.credentials) _ _ (last-length _ _ _ _ p q) (tested)
+    (c.put_number-2.ensures
+    ∙ rw (c.put_text-2.ensures, c.put_number.ensures, c.put_text.ensures) (last-put l a.registries a.credentials _ _ p q)) in record { value = both.0; upper_bound = both.1 }

@@ -1,0 +1,54 @@
+use Prim.Native.Nat.{ℕ}
+use native.Mathlib.Omega.{arith}
+use lib.ListN.{length}
+use Rattle.events.specs.Members.{view, check_deltas, check_current}
+use Rattle.registry_answer.specs.Answers.{accept_if, backer_set, or_else, first_of}
+use Rattle.registry_error.specs.declared.RegistryRejection.TheVariants.{TooManyBackers}
+use Rattle.registry_backing.specs.Backings.{enough_receipts}
+use Rattle.registry_inception.specs.InceptionFolds.{threshold_fits}
+use Rattle.registry.specs.RegistryFolds.{vrt_backers}
+use mathlib.Core.Path.{◌≡◌, ap, sym, ◌∙◌}
+use Rattle.registry_signatures.specs.SignatureSections.{signatures_in}
+use Rattle.registry_members.specs.Updated.{updated_members}
+use Rattle.registry.proofs.RegistryLaws.{limit-chain, limit-list}
+use Rattle.laws.proofs.Views.{length-mapped}
+use Rattle.events.proofs.MemberLaws.{view-size}
+use Rattle.events_tel.specs.TelEvents.{members_in}
+use Rattle.registry.proofs.registry.vrt_backers.Goals as goal
+
+pub returns : goal.returns
+unfolding vrt_backers first_of
+returns c =
+    let full : (length c.updated_members-after.result.members.items ≡ 16) =
+    search length-mapped in
+    let z = c.args in
+    let toad = z.toad.0 in
+    let cuts = members_in z.s.now z.cuts in
+    let additions = members_in z.s.now z.additions in
+    let u = updated_members (view z.current) cuts additions in
+    let after = c.updated_members-after in
+    let v = view after.result.members in
+    let size = view-size after.result.members (full) in
+    let count : after.result.members.count ≡ length v = omega (arith, size, after.ensures.count) in
+    let w = after.ensures.list in
+    let l = signatures_in z.s.now z.signatures in
+    let threshold : c.threshold_fits-threshold.result ≡ threshold_fits toad (length v) = c.threshold_fits-threshold.ensures ∙ ap (threshold_fits toad) count in
+    let receipts : c.enough_receipts-receipts.result ≡ enough_receipts toad (length v) l = c.enough_receipts-receipts.ensures ∙ ap (λ (n : ℕ). enough_receipts toad n l) (sym size) in
+    let deltas = backer_set (check_deltas cuts additions) in
+    let members = backer_set (check_current (view z.current) cuts additions) in
+    let rest = or_else (threshold_fits toad (length v)) (enough_receipts toad (length v) l) in
+    let x : c.or_else-answer.result ≡ or_else deltas (or_else members (or_else (accept_if after.result.ok TooManyBackers) rest)) =
+    rw (
+      c.or_else-answer.ensures,
+      c.or_else-2.ensures,
+      c.or_else-late.ensures,
+      c.or_else.ensures,
+      receipts,
+      threshold,
+      c.accept_if-limit.ensures,
+      c.backer_set-members.ensures,
+      c.check_current.ensures,
+      c.backer_set-deltas.ensures,
+      c.check_deltas.ensures,
+    ) in
+    let chain = limit-chain after.result.ok toad u v (view z.current) l w in record { answer = x ∙ rw (chain, ← after.ensures.ok); list = (λ h. limit-list deltas members rest after.result.ok u v (view z.current) w (rw x at h)); count = after.ensures.count }

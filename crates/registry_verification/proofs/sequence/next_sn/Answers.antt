@@ -1,0 +1,12 @@
+use mathlib.Core.Path.{sym, ◌∙◌}
+use Rattle.registry_verification.specs.Sequence.{next_sn}
+use Rattle.registry_verification.proofs.sequence.next_sn.Goals as goal
+
+pub returns-then-is_last : goal.returns-then-is_last
+unfolding next_sn
+returns-then-is_last c = rw (sym c.is_last.ensures ∙ c.if-is_last.true)
+
+pub returns : goal.returns
+unfolding next_sn
+returns c =
+    rw (sym c.is_last.ensures ∙ c.if-is_last.false, c.accept_if.ensures, c.same.ensures, c.next-expected.ensures)
