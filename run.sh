@@ -3,9 +3,13 @@
 # name that file, and with - standard input.
 set -euo pipefail
 here="$(cd "$(dirname "$0")" && pwd)"
-(cd "$here" && rt check attempts >/dev/null)
+# Proves and builds the program where that has to be done, and runs it on no attempts, of which nothing is shown.
+if ! said=$(cd "$here/crates/attempts" && rt run </dev/null 2>&1); then
+    echo "$said" >&2
+    exit 1
+fi
 input="${1:-$here/crates/attempts/stdin}"
 if [ "$input" = - ]; then
-    exec "$here/target/bin/attempts"
+    exec "$here/crates/attempts/out/attempts"
 fi
-exec "$here/target/bin/attempts" <"$input"
+exec "$here/crates/attempts/out/attempts" <"$input"

@@ -2,7 +2,7 @@
  * Jamfell for hosts in C: a ledger of credentials in a block of memory that the host lends.
  *
  * The rules are in docs/RULES.md; names in quotation marks are headings there. The library is libhost.a, for x86-64 Linux, made by
- * `rt staticlib host`.
+ * tools/library.sh.
  *
  * What holds of every call:
  * - It always answers, whatever the bytes are that it is handed, those of a ledger included. It allocates nothing, keeps no pointer

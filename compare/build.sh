@@ -19,7 +19,7 @@ if ! (cd "$JAMFELL_RUST" && echo "$digests" | sha256sum --check --quiet); then
     exit 1
 fi
 if [ -z "${JAMFELL_LIB:-}" ] && [ ! -f ../target/staticlib/libhost.a ]; then
-    (cd .. && rt staticlib host)
+    ../tools/library.sh
 fi
 cargo build --release --offline
 echo "built: compare/target/release has compare, orders and bench"

@@ -1,4 +1,4 @@
-//! Links the archive `libhost.a`, which `rt staticlib host` writes: from the folder that JAMFELL_LIB names, or else from
+//! Links the archive `libhost.a`, which tools/library.sh writes: from the folder that JAMFELL_LIB names, or else from
 //! target/staticlib of the repository.
 use std::env;
 use std::path::PathBuf;
@@ -18,7 +18,7 @@ fn main() {
     let archive = folder.join("libhost.a");
     if !archive.is_file() {
         panic!(
-            "there is no {}: run `rt staticlib host` in the repository, or set JAMFELL_LIB to the archive's folder",
+            "there is no {}: run tools/library.sh in the repository, or set JAMFELL_LIB to the archive's folder",
             archive.display()
         );
     }

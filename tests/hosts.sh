@@ -24,7 +24,7 @@ if [ "$(uname -sm)" != "Linux x86_64" ]; then
     finish
 fi
 if [ -z "${JAMFELL_LIB:-}" ]; then
-    rt staticlib host
+    tools/library.sh
     JAMFELL_LIB=$PWD/target/staticlib
 fi
 export JAMFELL_LIB

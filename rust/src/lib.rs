@@ -43,7 +43,7 @@
 //! # }
 //! ```
 //!
-//! The calls are in `libhost.a`, for x86-64 Linux. `rt staticlib host` in the repository writes it to target/staticlib, where the
+//! The calls are in `libhost.a`, for x86-64 Linux. `tools/library.sh` in the repository writes it to target/staticlib, where the
 //! build looks for it; the variable JAMFELL_LIB names another folder.
 #![deny(missing_docs)]
 #![deny(unsafe_op_in_unsafe_fn)]

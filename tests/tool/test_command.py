@@ -109,7 +109,7 @@ class Commands(ToolCase):
             (("explain", "--report", "xy"), "a report is given in hex digits, two for each byte, and not as 'xy'"),
             (("ledger", "standing", "x.img", "B:r", "E:c"), "REGISTRY: 'B:r': a said has the letter E, F, G, H or I, not B"),
             (("ledger", "standing", "x.img", "E:r", "c"), "CREDENTIAL: 'c' is no said: it is a letter with 64 hex digits, or a letter, a colon and a name, as E:pipe-12"),
-            (("ledger", "new", "x.img", "--library", missing), f"{missing}: the library is not there; `rt staticlib host` makes it"),
+            (("ledger", "new", "x.img", "--library", missing), f"{missing}: the library is not there; tools/library.sh makes it"),
             (("ledger", "new", "x.img", "--library", binary), None),
         ):
             found = self.refused(*words)

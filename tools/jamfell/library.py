@@ -50,7 +50,7 @@ class Library:
     def __init__(self, archive=None):
         archive = Path(archive or ARCHIVE)
         if not archive.is_file():
-            raise Fault(f"{archive}: the library is not there; `rt staticlib host` makes it")
+            raise Fault(f"{archive}: the library is not there; tools/library.sh makes it")
         with tempfile.TemporaryDirectory() as folder:
             try:
                 self._object = ctypes.CDLL(str(shared_object(archive, folder) if archive.suffix == ".a" else archive.resolve()))

@@ -16,7 +16,7 @@ from .primitives import Names, parse_primitive
 from .refusals import DISPOSITIONS, REFUSALS, STANDINGS
 from .rules import broken_rules
 
-PROGRAM = ROOT / "target" / "bin" / "attempts"
+PROGRAM = ROOT / "crates" / "attempts" / "out" / "attempts"
 
 
 def summary(data, names):

@@ -13,10 +13,10 @@ use native.Mathlib.Omega.{arith}
 use borrow.Author.Tests.{eq-eqb, ne_eqb, eqb-true, leb-true}
 use lib.Dec.{leb, eqb}
 use lib.ListN.{length, length-append}
-use Rattle.laws.specs.Number.{number, number_at}
-use Rattle.laws.specs.Room.{room}
-use Rattle.laws.proofs.Number.{length_digits, whole-number}
-use Rattle.laws.proofs.Tests.{and_left, and_right}
+use Rattle.cesr_number.specs.Number.{number, number_at}
+use Rattle.cesr_number.specs.Room.{room}
+use Rattle.cesr_number.proofs.Number.{length_digits, whole-number}
+use Rattle.cesr_number.proofs.Tests.{and_left, and_right}
 use Rattle.cesr.specs.declared.Matter.{Matter}
 use Rattle.cesr.specs.declared.Said.{Said}
 use Rattle.cesr.specs.declared.BasicPrefix.{BasicPrefix}

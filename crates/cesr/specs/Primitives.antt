@@ -1,7 +1,7 @@
 -- Primitives: their bytes, equality, and the letters that tell their roles (docs/RULES.md, "Bytes").
 use Rattle.std.specs.Prelude.{ℕ, ◌+◌, ◌%◌, List, ◌∷◌, ◌++◌, Bool, cond, ◌&&◌, ◌||◌, eqb, leb, get_or}
-use Rattle.laws.specs.Number.{number, digits}
-use Rattle.laws.specs.Room.{room}
+use Rattle.cesr_number.specs.Number.{number, digits}
+use Rattle.cesr_number.specs.Room.{room}
 use Rattle.cesr.specs.declared.Matter.{Matter}
 use Rattle.cesr.specs.declared.Said.{Said}
 use Rattle.cesr.specs.declared.BasicPrefix.{BasicPrefix}

@@ -13,8 +13,8 @@ use borrow.Author.Tests.{eq-eqb, ne_eqb, lt-ltb, le-ltb}
 use lib.Arith.{digits_lt, digits_div, digits_mod}
 use lib.Dec.{eqb, ltb, leb, lit<}
 use lib.ListN.{length}
-use Rattle.laws.specs.Number.{number, digits}
-use Rattle.laws.proofs.Number.{number-split, digits-split, digits-rest, read_whole, read_none}
+use Rattle.cesr_number.specs.Number.{number, digits}
+use Rattle.cesr_number.proofs.Number.{number-split, digits-split, digits-rest, read_whole, read_none}
 use Rattle.cesr_sn.specs.declared.Sn.{Sn}
 use Rattle.cesr_sn.specs.Numbers.{value, sn_of, read_sn, sn_bytes}
 

@@ -1,6 +1,6 @@
 -- The sequence number: 128 bits in two words (docs/RULES.md, "Bytes").
 use Rattle.std.specs.Prelude.{ℕ, ◌+◌, ◌*◌, ◌/◌, ◌%◌, ◌^◌, List}
-use Rattle.laws.specs.Number.{number_at, digits}
+use Rattle.cesr_number.specs.Number.{number_at, digits}
 use Rattle.cesr_sn.specs.declared.Sn.{Sn}
 
 -- the number that the two words stand for

@@ -1,6 +1,6 @@
 // The sequence number: 128 bits in two words (docs/RULES.md, "Bytes").
 ghost use Rattle.std.specs.Prelude.{◌≡◌, ◌+◌, ◌-◌, ◌^◌, eqb, ltb};
-ghost use Rattle.laws.specs.Room.{room, put};
+ghost use Rattle.cesr_number.specs.Room.{room, put};
 ghost use Rattle.cesr_sn.specs.Numbers.{value, sn_of, read_sn, sn_bytes};
 
 use crate::Sn;

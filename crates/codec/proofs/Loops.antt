@@ -17,13 +17,13 @@ use native.Mathlib.Numerals.{add-one}
 use borrow.Author.Tests.{lt-ltb, leb-true}
 use lib.Dec.{leb}
 use lib.ListN.{length, take, set, length-append}
-use Rattle.cesr.specs.declared.BasicPrefix.{BasicPrefix}
+use Rattle.events.specs.declared.BasicPrefix.{BasicPrefix}
 use Rattle.events.specs.Members.{view}
 use Rattle.events.proofs.MemberLaws.{view-push}
 use Rattle.events_tel.specs.TelEvents.{members_in}
 use Rattle.events_tel.specs.Configs.{has_room, pushed}
-use Rattle.codec_cursor.specs.declared.Cursor.{Cursor}
-use Rattle.codec_cursor.specs.Readers.{Read, Reader, stopped, need, read_byte, read_prefix, times, count_up_to, section}
+use Rattle.events_tel.specs.declared.Cursor.{Cursor}
+use Rattle.events_tel.specs.Readers.{Read, Reader, stopped, need, read_byte, read_prefix, times, count_up_to, section}
 use Rattle.codec.specs.Events.{read_prefixes}
 
 pub count-within : (limit : ℕ) (s : List ℕ) (c : Cursor) (r : Read ℕ) → r ≡ count_up_to limit s c → r.value ≤ limit

@@ -1,23 +1,23 @@
 -- How an event is read: the kind byte, then six sections by kind.
 use Rattle.std.specs.Prelude.{ℕ, ◌%◌, ◌^◌, List, Bool, cond, ◌&&◌, leb, ltb, eqb}
-use Rattle.cesr_sn.specs.Numbers.{value}
-use Rattle.cesr_sn.specs.declared.Sn.{Sn}
-use Rattle.cesr.specs.declared.Matter.{Matter}
-use Rattle.cesr.specs.declared.Said.{Said}
-use Rattle.cesr.specs.declared.BasicPrefix.{BasicPrefix}
+use Rattle.events_tel.specs.Numbers.{value}
+use Rattle.events_tel.specs.declared.Sn.{Sn}
+use Rattle.events.specs.declared.Matter.{Matter}
+use Rattle.events.specs.declared.Said.{Said}
+use Rattle.events.specs.declared.BasicPrefix.{BasicPrefix}
 use Rattle.events_tel.specs.Configs.{view_configs}
-use Rattle.events_seal.specs.Identifiers.{identifier_of}
+use Rattle.events_tel.specs.Identifiers.{identifier_of}
 use Rattle.events.specs.Members.{view}
 use Rattle.events_tel.specs.TelEvents.{Event, members_in}
 use Rattle.events_tel.specs.TelEvents.Event.{vcp, vrt, iss, rev, bis, brv}
-use Rattle.events_seal.specs.declared.Seal.{Seal}
-use Rattle.events_seal.specs.declared.Seal.TheVariants.{Digest, Root, Source, Event as EventSeal, Last, Back, Kind, Opaque}
+use Rattle.events_tel.specs.declared.Seal.{Seal}
+use Rattle.events_tel.specs.declared.Seal.TheVariants.{Digest, Root, Source, Event as EventSeal, Last, Back, Kind, Opaque}
 use Rattle.codec.specs.declared.CountRead.{CountRead}
 use Rattle.codec.specs.declared.ConfigsRead.{ConfigsRead}
 use Rattle.codec.specs.declared.PrefixesRead.{PrefixesRead}
 use Rattle.codec.specs.declared.ListedRead.{ListedRead}
 use Rattle.codec.specs.declared.ToadRead.{ToadRead}
-use Rattle.codec_cursor.specs.Readers.{Read, Reader, need, read_byte, read_byte_if, read_number, read_identifier, read_said, read_prefix, mapped, both, after, ended, section}
+use Rattle.events_tel.specs.Readers.{Read, Reader, need, read_byte, read_byte_if, read_number, read_identifier, read_said, read_prefix, mapped, both, after, ended, section}
 
 -- a config byte is 1 to 6
 unfoldable pub is_config : ℕ → Bool

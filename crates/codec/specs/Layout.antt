@@ -1,20 +1,20 @@
 -- The layout of an event, from the value to its bytes, and its limits (docs/RULES.md, "Bytes"). This is what a reader has to believe.
 use Rattle.std.specs.Prelude.{ℕ, ◌^◌, List, [], ◌∷◌, ◌++◌, Bool, true, ◌&&◌, leb, ltb, length}
-use Rattle.laws.specs.Number.{digits}
-use Rattle.cesr_sn.specs.Numbers.{sn_bytes}
-use Rattle.cesr.specs.Primitives.{matter_bytes, is_basic, is_said}
-use Rattle.cesr_sn.specs.declared.Sn.{Sn}
-use Rattle.cesr.specs.declared.Matter.{Matter}
-use Rattle.cesr.specs.declared.Said.{Said}
-use Rattle.cesr.specs.declared.BasicPrefix.{BasicPrefix}
-use Rattle.events_seal.specs.Identifiers.{matter_of}
-use Rattle.events_seal.specs.declared.Identifier.{Identifier}
-use Rattle.events_seal.specs.declared.Identifier.TheVariants.{Basic, SelfAddressing}
+use Rattle.events.specs.Number.{digits}
+use Rattle.events_tel.specs.Numbers.{sn_bytes}
+use Rattle.events.specs.Primitives.{matter_bytes, is_basic, is_said}
+use Rattle.events_tel.specs.declared.Sn.{Sn}
+use Rattle.events.specs.declared.Matter.{Matter}
+use Rattle.events.specs.declared.Said.{Said}
+use Rattle.events.specs.declared.BasicPrefix.{BasicPrefix}
+use Rattle.events_tel.specs.Identifiers.{matter_of}
+use Rattle.events_tel.specs.declared.Identifier.{Identifier}
+use Rattle.events_tel.specs.declared.Identifier.TheVariants.{Basic, SelfAddressing}
 use Rattle.events_tel.specs.TelEvents.{Event}
 use Rattle.events_tel.specs.TelEvents.Event.{vcp, vrt, iss, rev, bis, brv}
-use Rattle.events_seal.specs.declared.Seal.{Seal}
-use Rattle.events_seal.specs.declared.Seal.TheVariants.{Digest, Root, Source, Event as EventSeal, Last, Back, Kind, Opaque}
-use Rattle.codec_cursor.specs.Readers.{is_identifier}
+use Rattle.events_tel.specs.declared.Seal.{Seal}
+use Rattle.events_tel.specs.declared.Seal.TheVariants.{Digest, Root, Source, Event as EventSeal, Last, Back, Kind, Opaque}
+use Rattle.events_tel.specs.Readers.{is_identifier}
 use Rattle.codec.specs.Events.{is_config}
 
 -- the bytes of the elements, one behind the other

@@ -3,10 +3,10 @@
 
 pub mod section;
 
-use codec_cursor::Cursor;
 use events::Members;
-use events_tel::{Configs, Listed};
-use events_toad::Toad;
+pub use events::{BasicPrefix, Matter, Said};
+use events_tel::Toad;
+pub use events_tel::{Configs, Cursor, Identifier, Kind, Listed, Seal, TelEvent};
 
 #[derive(Clone, Copy)]
 pub struct CountRead {

@@ -2,16 +2,12 @@
 ghost use Rattle.std.specs.Prelude.{◌≡◌, ◌≤◌, min};
 ghost use Rattle.events.specs.Members.{view};
 ghost use Rattle.events_tel.specs.TelEvents.{members_in};
-ghost use Rattle.codec_cursor.specs.Readers.{count_up_to, section, times, read_prefix, view_byte};
+ghost use Rattle.events_tel.specs.Readers.{count_up_to, section, times, read_prefix, view_byte};
 ghost use Rattle.codec.specs.Events.{read_config, read_configs, read_prefixes, read_toad, view_count_read, view_configs_read, view_prefixes_read, view_listed_read, view_toad_read};
 
 use crate::{ConfigsRead, CountRead, ListedRead, PrefixesRead, ToadRead};
-use cesr::{BasicPrefix, Matter};
-use cesr_sn::Sn;
-use codec_cursor::{ByteRead, Cursor};
-use events::Members;
-use events_tel::{Configs, Listed};
-use events_toad::Toad;
+use events::{BasicPrefix, Matter, Members};
+use events_tel::{ByteRead, Configs, Cursor, Listed, Sn, Toad};
 
 // The count byte of a section of at most limit elements. Where it is not there or above the limit, it counts none.
 pub fn count_up_to(c: Cursor, s: &[u8], limit: u8) -> CountRead

@@ -1,1 +1,3 @@
+pub use Rattle.cesr_number.proofs.Views
+pub use Rattle.cesr_number.proofs.Words
 pub mod Passing

@@ -5,10 +5,10 @@ use mathlib.Core.List.{List}
 use mathlib.Core.Bool.{Bool, true, false, cond, ◌&&◌}
 use native.Mathlib.Nat.{add-zero, zero-mul, zero-add}
 use native.Mathlib.Omega.{arith}
-use Rattle.laws.specs.Number.{number, number_at}
-use Rattle.laws.specs.Room.{room}
-use Rattle.laws.proofs.Number.{whole-number}
-use Rattle.laws.proofs.Room.{room-true}
+use Rattle.cesr_number.specs.Number.{number, number_at}
+use Rattle.cesr_number.specs.Room.{room}
+use Rattle.cesr_number.proofs.Number.{whole-number}
+use Rattle.cesr_number.proofs.Room.{room-true}
 use Rattle.cesr.specs.Primitives.{read_matter}
 use Rattle.codec_cursor.specs.declared.Cursor.{Cursor}
 use Rattle.codec_cursor.specs.Readers.{advanced, need, stopped}

@@ -1,7 +1,7 @@
 -- How bytes are read: a cursor, and the readers that a layout is read by. (What a layout is, is said from the value to its bytes, in codec: Layout.)
 use Rattle.std.specs.Prelude.{ℕ, zero, suc, ◌+◌, List, [], ◌∷◌, ◌++◌, Bool, true, false, cond, ◌&&◌, ◌||◌, leb, eqb}
-use Rattle.laws.specs.Number.{number_at}
-use Rattle.laws.specs.Room.{room}
+use Rattle.cesr_number.specs.Number.{number_at}
+use Rattle.cesr_number.specs.Room.{room}
 use Rattle.cesr_sn.specs.Numbers.{read_sn}
 use Rattle.cesr.specs.Primitives.{read_matter, is_basic, is_said}
 use Rattle.cesr_sn.specs.declared.Sn.{Sn}

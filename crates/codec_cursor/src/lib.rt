@@ -4,9 +4,9 @@
 ghost use Rattle.std.specs.Prelude.{◌≡◌};
 ghost use Rattle.codec_cursor.specs.Readers.{starting, advanced, need, view_byte, read_byte, view_said, read_said, view_prefix, read_prefix, view_matter, read_identifier, view_sn, read_number, view_u32, read_quad, counted, letter_only};
 
-use cesr::{BasicPrefix, Matter, Said};
+pub use cesr::{BasicPrefix, Matter, Said};
 use cesr_number::number::{has_room, read_u8, read_u32};
-use cesr_sn::Sn;
+pub use cesr_sn::Sn;
 
 #[derive(Clone, Copy)]
 pub struct Cursor {

@@ -18,15 +18,15 @@ use Rattle.laws.specs.Number.{number, number_at, digits, Bytes}
 use Rattle.laws.proofs.Number.{length_digits, number-below, number-at, digits_number, whole-number}
 use Rattle.laws.proofs.Tests.{and_left, and_right}
 use Rattle.cesr_sn.specs.Numbers.{value, sn_of, read_sn, sn_bytes}
-use Rattle.cesr.specs.Primitives.{matter_bytes, read_matter, is_basic, is_said}
+use Rattle.codec.specs.Primitives.{matter_bytes, read_matter, is_basic, is_said}
 use Rattle.cesr_sn.specs.declared.Sn.{Sn}
-use Rattle.cesr.specs.declared.Matter.{Matter}
+use Rattle.codec.specs.declared.Matter.{Matter}
 use Rattle.cesr_sn.proofs.Words.{words-value, value-words, sn_of-good, value-fits}
-use Rattle.cesr.proofs.Matters.{length-matter}
+use Rattle.codec.proofs.Matters.{length-matter}
 use Rattle.codec_laws.proofs.Round.{Filled, matter-at, matter-bytes, read-filled}
-use Rattle.codec_cursor.specs.declared.Cursor.{Cursor}
+use Rattle.codec.specs.declared.Cursor.{Cursor}
 use Rattle.codec.specs.Layout.{byte_bytes, said_bytes, prefix_bytes, is_matter, good_sn, good_toad, good_said, good_prefix, good_identifier}
-use Rattle.codec_cursor.specs.Readers.{placed, Read, Reader, advanced, counted, mapped, both, after, ended, read_byte, read_byte_if, read_quad, read_number, read_if, read_said, read_prefix, read_identifier, is_identifier, said_of, prefix_of}
+use Rattle.codec.specs.Readers.{placed, Read, Reader, advanced, counted, mapped, both, after, ended, read_byte, read_byte_if, read_quad, read_number, read_if, read_said, read_prefix, read_identifier, is_identifier, said_of, prefix_of}
 use Rattle.codec_laws.proofs.Stands.{Stands, stands-join, stands-first, stands-rest, stands-fits, stands-split, stands-place, went, goes_on, passed, stays}
 
 -- what a reader that has not stopped tells of the value that it gives

@@ -11,9 +11,9 @@ use lib.Dec.{eqb, leb}
 use lib.ListN.{length, length-append}
 use Rattle.laws.specs.Number.{Bytes}
 use Rattle.laws.proofs.Tests.{and_left, and_right}
-use Rattle.codec_cursor.specs.declared.Cursor.{Cursor}
+use Rattle.codec.specs.declared.Cursor.{Cursor}
 use Rattle.codec.specs.Layout.{joined, section_bytes, all}
-use Rattle.codec_cursor.specs.Readers.{placed, Reader, need, read_byte, times, count_up_to, section}
+use Rattle.codec.specs.Readers.{placed, Reader, need, read_byte, times, count_up_to, section}
 use Rattle.codec_laws.proofs.Stands.{Stands, stands-join, stands-first, stands-rest, passed, stays}
 use Rattle.codec_laws.proofs.Codes.{Told, Codes, and-true, shift, codes-byte, is_byte}
 

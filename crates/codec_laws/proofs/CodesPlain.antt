@@ -6,8 +6,8 @@ use mathlib.Core.Bool.{Bool, true, false, cond, ◌||◌}
 use borrow.Author.Tests.{eqb-true}
 use lib.Dec.{eqb}
 use Rattle.laws.specs.Number.{Bytes}
-use Rattle.codec_cursor.specs.declared.Cursor.{Cursor}
-use Rattle.codec_cursor.specs.Readers.{Read, need, read_byte}
+use Rattle.codec.specs.declared.Cursor.{Cursor}
+use Rattle.codec.specs.Readers.{Read, need, read_byte}
 use Rattle.codec_laws.proofs.Stands.{Stands, Passed, passed, stays}
 use Rattle.codec_laws.proofs.Codes.{Told, codes-byte}
 

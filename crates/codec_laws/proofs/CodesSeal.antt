@@ -11,20 +11,20 @@ use lib.ListN.{length}
 use Rattle.laws.specs.Number.{digits, Bytes}
 use Rattle.laws.proofs.Tests.{and_left, and_right}
 use Rattle.cesr_sn.specs.Numbers.{value, sn_of, sn_bytes}
-use Rattle.cesr.specs.Primitives.{matter_bytes, is_basic, is_said}
+use Rattle.codec.specs.Primitives.{matter_bytes, is_basic, is_said}
 use Rattle.cesr_sn.specs.declared.Sn.{Sn}
-use Rattle.cesr.specs.declared.Matter.{Matter}
-use Rattle.cesr.specs.declared.Said.{Said}
+use Rattle.codec.specs.declared.Matter.{Matter}
+use Rattle.codec.specs.declared.Said.{Said}
 use Rattle.cesr_sn.proofs.Words.{value-words, sn_of-good}
-use Rattle.events_seal.specs.Identifiers.{matter_of, identifier_of}
-use Rattle.events_seal.proofs.Identifiers.{matter-identifier}
-use Rattle.events_seal.specs.declared.Identifier.{Identifier}
-use Rattle.events_seal.specs.declared.Identifier.TheVariants.{Basic, SelfAddressing}
-use Rattle.events_seal.specs.declared.Seal.{Seal}
-use Rattle.events_seal.specs.declared.Seal.TheVariants.{Digest, Root, Source, Event as EventSeal, Last, Back, Kind, Opaque}
-use Rattle.codec_cursor.specs.declared.Cursor.{Cursor}
+use Rattle.codec.specs.Identifiers.{matter_of, identifier_of}
+use Rattle.codec.proofs.Identifiers.{matter-identifier}
+use Rattle.codec.specs.declared.Identifier.{Identifier}
+use Rattle.codec.specs.declared.Identifier.TheVariants.{Basic, SelfAddressing}
+use Rattle.codec.specs.declared.Seal.{Seal}
+use Rattle.codec.specs.declared.Seal.TheVariants.{Digest, Root, Source, Event as EventSeal, Last, Back, Kind, Opaque}
+use Rattle.codec.specs.declared.Cursor.{Cursor}
 use Rattle.codec.specs.Layout.{byte_bytes, said_bytes, prefix_bytes, section_bytes, is_matter, good_sn, good_toad, good_said, good_prefix, good_identifier, good_configs, good_prefixes, seal_bytes, good_identity, good_seal}
-use Rattle.codec_cursor.specs.Readers.{placed, both, read_byte, read_byte_if, read_number, read_said, read_identifier, is_identifier, read_prefix}
+use Rattle.codec.specs.Readers.{placed, both, read_byte, read_byte_if, read_number, read_said, read_identifier, is_identifier, read_prefix}
 use Rattle.codec.specs.Events.{is_config, read_config, read_toad, read_configs, read_prefixes, seal_of, event_seal, read_event_seal, read_other_seal, read_seal}
 use Rattle.codec_laws.proofs.Stands.{Stands, passed, stays}
 use Rattle.codec_laws.proofs.Codes.{Told, Codes, and-true, led, leads, shift, mapped-is, codes-like, codes-byte, codes-byte-if, is_byte, codes-sn, codes-said, codes-prefix, codes-identifier, codes-both}

@@ -1,3 +1,4 @@
+pub use Rattle.codec.proofs.ConfigLaws
 pub mod Round
 pub mod Stands
 pub mod Sticky

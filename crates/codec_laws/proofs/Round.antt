@@ -16,11 +16,11 @@ use Rattle.laws.specs.Room.{room, put}
 use Rattle.laws.proofs.Number.{number-at, number-below, digits_number, length_digits, at-put, put-at}
 use Rattle.laws.proofs.Room.{room-true, room-false, true-room, put-sets, put-none, stored_same}
 use Rattle.cesr_sn.specs.declared.Sn.{Sn}
-use Rattle.cesr.specs.declared.Matter.{Matter}
+use Rattle.codec.specs.declared.Matter.{Matter}
 use Rattle.cesr_sn.specs.Numbers.{value, sn_of, read_sn, sn_bytes}
-use Rattle.cesr.specs.Primitives.{none, matter_bytes, read_matter, eq_matter}
+use Rattle.codec.specs.Primitives.{none, matter_bytes, read_matter, eq_matter}
 use Rattle.cesr_sn.proofs.Words.{Fit, words-value, value-words, value-fits}
-use Rattle.cesr.proofs.Matters.{made, length-matter, matter-eq, eq-matter}
+use Rattle.codec.proofs.Matters.{made, length-matter, matter-eq, eq-matter}
 
 pub sn-back : (l : List ℕ) (at : ℕ) (n : Sn) → Fit n → at + 16 ≤ length l → read_sn (put l at (sn_bytes n)) at ≡ n
 unfolding read_sn sn_bytes

@@ -1,6 +1,6 @@
 -- What the struct of a seal that was read stands for.
 use Rattle.events_seal.specs.declared.Seal.{Seal}
-use Rattle.codec_cursor.specs.Readers.{Read}
+use Rattle.codec.specs.Readers.{Read}
 use Rattle.codec_seal.specs.declared.SealRead.{SealRead}
 
 abbrev pub view_seal_read : SealRead → Read Seal

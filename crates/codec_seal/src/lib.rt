@@ -3,7 +3,7 @@
 
 pub mod seal;
 
-use codec_cursor::Cursor;
+use codec::Cursor;
 use events_seal::Seal;
 
 #[derive(Clone, Copy)]

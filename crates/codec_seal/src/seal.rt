@@ -1,12 +1,12 @@
 // A seal: its kind byte, and of an event seal its identifier, number and digest (docs/RULES.md, "Bytes").
 ghost use Rattle.std.specs.Prelude.{◌≡◌, ◌&&◌, leb};
-ghost use Rattle.codec_cursor.specs.Readers.{section};
+ghost use Rattle.codec.specs.Readers.{section};
 ghost use Rattle.codec.specs.Events.{seal_of, read_event_seal, read_other_seal, read_seal};
 ghost use Rattle.codec_seal.specs.SealReads.{view_seal_read};
 
 use crate::SealRead;
+use codec::Cursor;
 use codec::section::count_up_to;
-use codec_cursor::Cursor;
 use events_seal::{Identifier, Seal};
 
 // A seal that is no event seal: no rule reads its content, and it has no bytes but its kind.

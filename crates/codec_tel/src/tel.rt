@@ -2,14 +2,13 @@
 ghost use Rattle.std.specs.Prelude.{◌≡◌, cond};
 ghost use Rattle.codec_cursor.specs.Readers.{counted};
 ghost use Rattle.codec_tel_registry.specs.EventReads.{view_event_read};
-ghost use Rattle.codec.specs.Events.{read_iss, read_rev, read_bis, read_brv, read_event};
+ghost use Rattle.codec_tel_registry.specs.Events.{read_iss, read_rev, read_bis, read_brv, read_event};
 
 use codec_cursor::Cursor;
 use codec_seal::seal::read_seal;
-use codec_tel_registry::EventRead;
 use codec_tel_registry::tel::{blank, read_vcp, read_vrt};
+use codec_tel_registry::{EventRead, Kind, TelEvent};
 use events_seal::Seal;
-use events_tel::{Kind, TelEvent};
 
 // A credential's event: where its digests stand, and its seal.
 fn of_credential(

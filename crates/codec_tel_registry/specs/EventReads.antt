@@ -1,6 +1,6 @@
 -- What the struct of an event that was read stands for, over the bytes that it was read from.
 use Rattle.std.specs.Prelude.{ℕ, List}
-use Rattle.events_tel.specs.TelEvents.{Event, view_event}
+use Rattle.codec.specs.TelEvents.{Event, view_event}
 use Rattle.codec_cursor.specs.Readers.{Read}
 use Rattle.codec_tel_registry.specs.declared.EventRead.{EventRead}
 

@@ -1,1 +1,2 @@
+pub use Rattle.codec.specs.Events
 pub mod EventReads

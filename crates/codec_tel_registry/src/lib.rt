@@ -3,8 +3,8 @@
 
 pub mod tel;
 
+pub use codec::{Kind, TelEvent};
 use codec_cursor::Cursor;
-use events_tel::TelEvent;
 
 // An event that was read, of a registry or of a credential.
 #[derive(Clone, Copy)]

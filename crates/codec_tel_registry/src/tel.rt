@@ -6,9 +6,9 @@ ghost use Rattle.codec.specs.Events.{read_vcp, read_vrt};
 use crate::EventRead;
 use cesr_sn::Sn;
 use codec::section::{pass_prefixes, read_configs, read_toad};
+use codec::{Configs, Kind, Listed, TelEvent};
 use codec_cursor::Cursor;
 use events_seal::Seal;
-use events_tel::{Configs, Kind, Listed, TelEvent};
 use events_toad::Toad;
 
 // An event with its other fields blank. A kind that carries no seal has Digest there.

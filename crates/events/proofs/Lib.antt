@@ -1,1 +1,2 @@
+pub use Rattle.cesr.proofs.Matters
 pub mod MemberLaws

@@ -21,9 +21,9 @@ use borrow.Author.Tests.{lt-ltb, le-ltb, ltb-true, ltb-false}
 use lib.ListN.{length, take, set, get_or, get_or-eq_default}
 use lib.Seq.{length-take-le, get_or-take, take-length}
 use lib.Dec.{ltb}
-use Rattle.laws.specs.First.{first}
-use Rattle.laws.proofs.First.{first-none, first_found, first_holds, first-least}
-use Rattle.laws.proofs.Views.{kept-size, kept_at, kept_push, take_step}
+use Rattle.cesr.specs.First.{first}
+use Rattle.cesr.proofs.First.{first-none, first_found, first_holds, first-least}
+use Rattle.cesr.proofs.Views.{kept-size, kept_at, kept_push, take_step}
 use Rattle.cesr.specs.declared.BasicPrefix.{BasicPrefix}
 use Rattle.cesr.specs.Primitives.{eq_prefix}
 use Rattle.cesr.proofs.Matters.{eq-prefix, prefix-eq}

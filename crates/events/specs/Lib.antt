@@ -1,1 +1,3 @@
+pub use Rattle.cesr.specs.Number
+pub use Rattle.cesr.specs.Primitives
 pub mod Members

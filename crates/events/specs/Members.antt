@@ -1,6 +1,6 @@
 -- Lists of backers, and the rules on a list and on what a rotation cuts from it and adds to it (docs/RULES.md, "Lists of backers").
 use Rattle.std.specs.Prelude.{ℕ, ◌<◌, ◌≡◌, Bool, true, false, not, cond, ◌||◌, List, [], ◌∷◌, ◌++◌, length, get_or, take, ltb}
-use Rattle.laws.specs.First.{first}
+use Rattle.cesr.specs.First.{first}
 use Rattle.cesr.specs.declared.BasicPrefix.{BasicPrefix}
 use Rattle.cesr.specs.Primitives.{none, eq_prefix}
 use Rattle.events.specs.declared.Members.{Members}

@@ -3,7 +3,7 @@
 
 pub mod member_set;
 
-use cesr::BasicPrefix;
+pub use cesr::{BasicPrefix, Matter, Said};
 
 // The members are the first `count` of the items.
 #[repr(C)]

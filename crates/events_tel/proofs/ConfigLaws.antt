@@ -12,7 +12,7 @@ use native.Mathlib.Omega.{arith}
 use borrow.Author.Tests.{lt-ltb, le-ltb, eq-eqb, ne_eqb, eqb-true}
 use lib.Dec.{eqb}
 use lib.ListN.{length, get_or, set}
-use Rattle.laws.proofs.Views.{kept-size, kept_at, kept_push}
+use Rattle.codec_cursor.proofs.Views.{kept-size, kept_at, kept_push}
 use Rattle.events_tel.specs.declared.Configs.{Configs}
 use Rattle.events_tel.specs.declared.ConfigTrait.{ConfigTrait}
 use Rattle.events_tel.specs.declared.ConfigTrait.TheVariants.{EstOnly, DoNotDelegate, NoBackers, RegistrarBackers, NoRegistrarBackers, DelegateIsDelegator}

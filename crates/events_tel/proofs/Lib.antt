@@ -1,1 +1,2 @@
+pub use Rattle.events_seal.proofs.Identifiers
 pub mod ConfigLaws

@@ -1,10 +1,10 @@
 -- The six events, each with what it carries (docs/RULES.md, "Event kinds").
 use Rattle.std.specs.Prelude.{ℕ, min, List}
-use Rattle.cesr.specs.Primitives.{read_matter, said_at}
-use Rattle.cesr_sn.specs.declared.Sn.{Sn}
-use Rattle.cesr.specs.declared.Matter.{Matter}
-use Rattle.cesr.specs.declared.Said.{Said}
-use Rattle.cesr.specs.declared.BasicPrefix.{BasicPrefix}
+use Rattle.codec_cursor.specs.Primitives.{read_matter, said_at}
+use Rattle.codec_cursor.specs.declared.Sn.{Sn}
+use Rattle.codec_cursor.specs.declared.Matter.{Matter}
+use Rattle.codec_cursor.specs.declared.Said.{Said}
+use Rattle.codec_cursor.specs.declared.BasicPrefix.{BasicPrefix}
 use Rattle.events_tel.specs.Configs.{view_configs}
 use Rattle.events_seal.specs.declared.Seal.{Seal}
 use Rattle.codec_cursor.specs.Readers.{read_prefix, times}

@@ -1,6 +1,6 @@
 // Configuration traits, and lists of their bytes (docs/RULES.md, "Configuration traits").
 ghost use Rattle.std.specs.Prelude.{◌≡◌, ◌≤◌, false, [], length, get_or};
-ghost use Rattle.laws.specs.Words.{same_list};
+ghost use Rattle.codec_cursor.specs.Words.{same_list};
 ghost use Rattle.events_tel.specs.Configs.{code_of, trait_of, view_configs, has_room, pushed, has_code, no_backers};
 
 use crate::{ConfigTrait, Configs, PushedConfig, TraitRead};

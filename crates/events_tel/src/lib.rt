@@ -4,10 +4,9 @@
 pub mod config;
 pub mod tel;
 
-use cesr_sn::Sn;
-use codec_cursor::Cursor;
-use events_seal::Seal;
-use events_toad::Toad;
+pub use codec_cursor::{ByteRead, Cursor, Sn};
+pub use events_seal::{Identifier, Seal};
+pub use events_toad::Toad;
 
 // What an identifier may do.
 #[derive(Clone, Copy)]

@@ -3,7 +3,7 @@ ghost use Rattle.std.specs.Prelude.{◌≡◌};
 ghost use Rattle.events_tel.specs.TelEvents.{kind_number, sn_of_kind};
 
 use crate::Kind;
-use cesr_sn::Sn;
+use codec_cursor::Sn;
 
 impl Kind {
     // The byte that stands for the kind.

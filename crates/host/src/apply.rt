@@ -3,7 +3,7 @@ ghost use Rattle.std.specs.Prelude.{◌≡◌, false};
 ghost use Rattle.registry_answer.specs.Answers.{accepts};
 ghost use Rattle.registry_error.specs.Errors.{answer_number};
 ghost use Rattle.ledger_step.specs.Steps.{request_of, effect, step_of};
-ghost use Rattle.ledger_stores.specs.Applies.{Stores};
+ghost use Rattle.ledger_apply.specs.Applies.{Stores};
 ghost use Rattle.ledger_table.specs.Tables.{view_ledger};
 ghost use Rattle.ledger_laws.specs.LentTables.{lent_of};
 ghost use Rattle.host_report.specs.Reports.{answer_report};

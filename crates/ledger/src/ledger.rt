@@ -6,7 +6,7 @@ ghost use Rattle.ledger_step.specs.Steps.{step_of};
 ghost use Rattle.ledger_image.specs.Images.{image_of, image_number, written_of};
 ghost use Rattle.ledger_image.specs.Images.ImageAnswer.{refused};
 ghost use Rattle.ledger_standing.specs.Lookups.{key_pair, view_looked_up};
-ghost use Rattle.ledger_written.specs.Writes.{view_written};
+ghost use Rattle.ledger_write.specs.Writes.{view_written};
 ghost use Rattle.ledger_table.specs.Tables.{view_ledger, ledger_after};
 
 use crate::{LedgerApplied, LedgerRead};
@@ -17,7 +17,7 @@ use ledger_read::read::read_image as read_lent;
 use ledger_standing::LookedUp;
 use ledger_table::Ledger;
 use ledger_write::write::write_image as write_lent;
-use ledger_written::Written;
+use ledger_write::Written;
 
 // One attempt. After a refusal the ledger is the one that was handed in, whatever stands in its arrays.
 pub fn apply(held: Ledger, attempt: &[u8]) -> LedgerApplied

@@ -1,7 +1,7 @@
 // One attempt against a ledger that is lent (docs/RULES.md, "Ledger", "Orders", "Next states").
 ghost use Rattle.std.specs.Prelude.{◌≡◌};
-ghost use Rattle.ledger_step.specs.Ledgers.{lent_ledger};
-ghost use Rattle.ledger_step.specs.Steps.{request_of, effect, step_of};
+ghost use Rattle.ledger_rows.specs.Ledgers.{lent_ledger};
+ghost use Rattle.ledger_rows.specs.Steps.{request_of, effect, step_of};
 ghost use Rattle.ledger_stores.specs.Applies.{lent, Stores};
 
 use ledger_asked::asked::named;

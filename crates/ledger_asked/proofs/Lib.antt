@@ -1,2 +1,3 @@
+pub use Rattle.ledger_step.proofs.Chains
 pub mod Places
 pub mod RequestLaws

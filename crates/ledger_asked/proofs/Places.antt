@@ -20,7 +20,7 @@ use Rattle.events_tel.specs.TelEvents.{Event}
 use Rattle.codec_laws.proofs.Stands.{went, passed}
 use Rattle.codec_laws.proofs.Sticky.{Sticky, sticky-both, sticky-number, sticky-said, sticky-identifier, sticky-counted, sticky-after, sticky-ended, sticky-toad, sticky-configs, sticky-prefixes, sticky-event-seal, sticky-seal}
 use Rattle.registry_state.specs.States.{no_said}
-use Rattle.registry_laws.specs.Pairs.{pair_in}
+use Rattle.ledger_step.specs.Pairs.{pair_in}
 use Rattle.ledger_asked.specs.declared.Named.{Named}
 use Rattle.ledger_asked.specs.Names.{about, named_pair, named_event, named_at, pair_at, named_by, head_named}
 

@@ -20,7 +20,7 @@ use Rattle.registry_wire.specs.Attempts.Decoded.{malformed, decoded}
 use Rattle.registry_wire.specs.declared.DecodedAttempt.{DecodedAttempt}
 use Rattle.registry_wire.proofs.StickyAttempt.{sticky-sections}
 use Rattle.registry_error.specs.declared.RegistryRejection.TheVariants.{Malformed}
-use Rattle.registry_laws.specs.Pairs.{Pair, pair_in}
+use Rattle.ledger_step.specs.Pairs.{Pair, pair_in}
 use Rattle.ledger_step.specs.Steps.{revocation_of, event_request, decoded_request, request_of}
 use Rattle.ledger_step.specs.Steps.Request.{nothing}
 use Rattle.ledger_asked.specs.Names.{named_of, named_pair, named_event, head_named, is_decoded, decodes}

@@ -10,7 +10,7 @@ use Rattle.registry_state.specs.States.{no_said}
 use Rattle.registry_error.specs.Errors.{number_of}
 use Rattle.registry_wire.specs.Attempts.{Decoded, decode_of}
 use Rattle.registry_wire.specs.Attempts.Decoded.{malformed, decoded}
-use Rattle.registry_laws.specs.Pairs.{Pair, pair_under, pair_in}
+use Rattle.ledger_step.specs.Pairs.{Pair, pair_under, pair_in}
 use Rattle.ledger_step.specs.Steps.{Request}
 use Rattle.ledger_step.specs.Steps.Request.{nothing, inception, rotation, issue, revocation}
 use Rattle.ledger_asked.specs.declared.Named.{Named}

@@ -21,10 +21,10 @@ use Rattle.codec_laws.proofs.Codes.{and-true}
 use Rattle.registry_state.specs.States.{Registry, read_registry}
 use Rattle.registry_state_credential.specs.CredentialStates.{read_credential, well_credential}
 use Rattle.registry_state_credential.specs.declared.CredentialState.{CredentialState}
-use Rattle.registry_laws.specs.Pairs.{key_of}
-use Rattle.ledger_step.specs.Tables.{distinct}
-use Rattle.ledger_step.specs.Ledgers.{holds, eq_pair, has_registry, zero_or_one, row_rules, sound}
-use Rattle.ledger_step.proofs.SoundParts.{sound-parts}
+use Rattle.ledger_registry_rules.specs.Pairs.{key_of}
+use Rattle.ledger_image.specs.Tables.{distinct}
+use Rattle.ledger_image.specs.Ledgers.{holds, eq_pair, has_registry, zero_or_one, row_rules, sound}
+use Rattle.ledger_image.proofs.SoundParts.{sound-parts}
 use Rattle.ledger_image.specs.Images.{wide_count, wide_section, read_registries, read_credentials, read_image, ledger_of, image_of}
 use Rattle.ledger_image.specs.Images.ImageAnswer.{refused, held}
 use Rattle.ledger_image_rows_check.specs.RowTests.{rows_stand}

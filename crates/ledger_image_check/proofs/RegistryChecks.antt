@@ -17,14 +17,14 @@ use Rattle.codec_laws.proofs.CodesList.{all_snoc}
 use Rattle.registry_state.specs.States.{Registry, view_registry, read_registry, well_registry}
 use Rattle.registry_state.specs.declared.RegistryState.{RegistryState}
 use Rattle.registry_state.proofs.StickyState.{sticky-registry}
-use Rattle.registry_laws.specs.ReadingRules.{sound_registry}
-use Rattle.ledger_step.specs.Tables.{has, distinct}
-use Rattle.ledger_step.specs.Ledgers.{holds, id_of, keeps_layout, keeps_rules, registry_rules}
-use Rattle.ledger_step.specs.Steps.{held_now}
-use Rattle.ledger_step.proofs.Rules.{said-test}
+use Rattle.ledger_registry_rules.specs.ReadingRules.{sound_registry}
+use Rattle.ledger_image.specs.Tables.{has, distinct}
+use Rattle.ledger_image.specs.Ledgers.{holds, id_of, keeps_layout, keeps_rules, registry_rules}
+use Rattle.ledger_image.specs.Steps.{held_now}
+use Rattle.ledger_image.proofs.Rules.{said-test}
 use Rattle.ledger_image.specs.Images.{wide_count, wide_section, read_registries}
 use Rattle.ledger_image_check.specs.Checks.{id_in, registries_pass, section_passes}
-use Rattle.ledger_image_ids.proofs.OneMore.{distinct_snoc}
+use Rattle.ledger_image_rows_check.proofs.OneMore.{distinct_snoc}
 
 -- the rules that registries keep, together
 abbrev pub apart_and_sound : List Registry → Bool

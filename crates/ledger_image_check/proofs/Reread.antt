@@ -13,7 +13,7 @@ use Rattle.codec_cursor.specs.Readers.{Read, starting, placed, times}
 use Rattle.registry_state.specs.States.{Registry, read_registry}
 use Rattle.registry_state_credential.specs.CredentialStates.{read_credential}
 use Rattle.registry_state_credential.specs.declared.CredentialState.{CredentialState}
-use Rattle.ledger_step.specs.Ledgers.{sound}
+use Rattle.ledger_image.specs.Ledgers.{sound}
 use Rattle.ledger_image.specs.Images.{wide_count, wide_section, read_registries, read_credentials, ledger_of, image_of}
 use Rattle.ledger_image.specs.Images.ImageAnswer.{held, refused}
 use Rattle.ledger_image_check.specs.Checks.{ImageCheck, checked_by, checked_of}

@@ -5,8 +5,8 @@ use Rattle.cesr.specs.declared.Said.{Said}
 use Rattle.codec_cursor.specs.declared.Cursor.{Cursor}
 use Rattle.codec_cursor.specs.Readers.{starting, times}
 use Rattle.registry_state.specs.States.{Registry, read_registry}
-use Rattle.registry_laws.specs.ReadingRules.{sound_registry}
-use Rattle.ledger_step.specs.Tables.{has}
+use Rattle.ledger_registry_rules.specs.ReadingRules.{sound_registry}
+use Rattle.ledger_image.specs.Tables.{has}
 use Rattle.ledger_image.specs.Images.{ImageAnswer, wide_count, read_registries, image_of}
 use Rattle.ledger_image.specs.Images.ImageAnswer.{refused, held}
 use Rattle.ledger_image_check.specs.declared.Checked.{Checked}

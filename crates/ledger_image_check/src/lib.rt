@@ -5,7 +5,7 @@ pub mod image;
 pub mod registries;
 
 use codec_cursor::Cursor;
-use ledger_image_ids::Ids;
+use ledger_image_rows_check::Ids;
 
 // Whether the image is one of a ledger, how many registries and rows it has, and the byte at which its first row stands. The registries stand from byte 2 on. Of an image that is refused the three numbers are 0.
 #[derive(Clone, Copy)]

@@ -2,13 +2,13 @@
 ghost use Rattle.std.specs.Prelude.{◌≡◌, map};
 ghost use Rattle.codec_cursor.specs.Readers.{starting};
 ghost use Rattle.ledger_image.specs.Images.{read_registries};
-ghost use Rattle.ledger_image_ids.specs.IdLists.{view_ids};
+ghost use Rattle.ledger_image_rows_check.specs.IdLists.{view_ids};
 ghost use Rattle.ledger_image_check.specs.Checks.{id_in, section_passes};
 
 use crate::SectionRead;
 use codec_cursor::Cursor;
 use ledger_image::image::read_count;
-use ledger_image_ids::Ids;
+use ledger_image_rows_check::Ids;
 use ledger_registry_rules::rules::registry_sound;
 use registry_state::RegistryState;
 

@@ -1,2 +1,3 @@
+pub use Rattle.ledger_step.proofs.Rules
 pub mod OneMore
 pub mod IdViews

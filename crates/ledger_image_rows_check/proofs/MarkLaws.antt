@@ -18,9 +18,9 @@ use Rattle.cesr.specs.declared.Said.{Said}
 use Rattle.codec_cursor.specs.Readers.{Read, placed}
 use Rattle.registry_state_credential.specs.CredentialStates.{read_credential}
 use Rattle.registry_state_credential.specs.declared.CredentialState.{CredentialState}
-use Rattle.registry_laws.specs.Pairs.{Pair, key_of}
-use Rattle.ledger_step.specs.Tables.{has}
-use Rattle.ledger_step.specs.Ledgers.{eq_pair}
+use Rattle.ledger_image_ids.specs.Pairs.{Pair, key_of}
+use Rattle.ledger_image_ids.specs.Tables.{has}
+use Rattle.ledger_image_ids.specs.Ledgers.{eq_pair}
 use Rattle.ledger_image_rows_check.specs.RowTests.{key_at, keys_from, row_passes}
 use Rattle.ledger_image_rows_check.specs.Marks.{word_of, OthersDiffer}
 use Rattle.ledger_image_ids.proofs.OneMore.{has-snoc}

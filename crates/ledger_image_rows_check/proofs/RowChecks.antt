@@ -28,10 +28,10 @@ use Rattle.codec_laws.proofs.Codes.{and-true}
 use Rattle.codec_laws.proofs.CodesList.{all_snoc}
 use Rattle.registry_state_credential.specs.CredentialStates.{read_credential, well_credential}
 use Rattle.registry_state_credential.specs.declared.CredentialState.{CredentialState}
-use Rattle.registry_laws.specs.Pairs.{Pair, key_of}
-use Rattle.ledger_step.specs.Tables.{has, distinct}
-use Rattle.ledger_step.specs.Ledgers.{eq_pair, has_registry, zero_or_one}
-use Rattle.ledger_step.proofs.Rules.{pair-test}
+use Rattle.ledger_image_ids.specs.Pairs.{Pair, key_of}
+use Rattle.ledger_image_ids.specs.Tables.{has, distinct}
+use Rattle.ledger_image_ids.specs.Ledgers.{eq_pair, has_registry, zero_or_one}
+use Rattle.ledger_image_ids.proofs.Rules.{pair-test}
 use Rattle.ledger_image_rows_check.specs.RowTests.{key_at, keys_from, row_passes, rows_pass}
 use Rattle.ledger_image_ids.proofs.OneMore.{has-snoc, distinct_snoc}
 

@@ -1,2 +1,3 @@
+pub use Rattle.ledger_image_ids.specs.IdLists
 pub mod RowTests
 pub mod Marks

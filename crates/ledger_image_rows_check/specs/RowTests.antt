@@ -4,9 +4,9 @@ use Rattle.cesr.specs.Primitives.{read_matter}
 use Rattle.cesr.specs.declared.Said.{Said}
 use Rattle.codec_cursor.specs.Readers.{placed, said_of}
 use Rattle.registry_state_credential.specs.CredentialStates.{read_credential}
-use Rattle.registry_laws.specs.Pairs.{Pair, key_of}
-use Rattle.ledger_step.specs.Tables.{has}
-use Rattle.ledger_step.specs.Ledgers.{eq_pair, has_registry, zero_or_one}
+use Rattle.ledger_image_ids.specs.Pairs.{Pair, key_of}
+use Rattle.ledger_image_ids.specs.Tables.{has}
+use Rattle.ledger_image_ids.specs.Ledgers.{eq_pair, has_registry, zero_or_one}
 
 -- the key of a row that stands at a place, and those of n rows from a place on
 unfoldable pub key_at : List ℕ → ℕ → Pair

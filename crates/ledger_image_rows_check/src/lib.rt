@@ -2,3 +2,5 @@
 #![tactic(auto)]
 
 pub mod rows;
+
+pub use ledger_image_ids::Ids;

@@ -1,8 +1,8 @@
 // The rows of an image, each of 115 bytes: read where they stand, and held to the reading rules that speak of rows.
 ghost use Rattle.std.specs.Prelude.{◌≡◌, ◌+◌, ◌*◌, ◌≤◌, length};
-ghost use Rattle.registry_laws.specs.Pairs.{key_of};
-ghost use Rattle.ledger_step.specs.Tables.{has};
-ghost use Rattle.ledger_step.specs.Ledgers.{eq_pair};
+ghost use Rattle.ledger_image_ids.specs.Pairs.{key_of};
+ghost use Rattle.ledger_image_ids.specs.Tables.{has};
+ghost use Rattle.ledger_image_ids.specs.Ledgers.{eq_pair};
 ghost use Rattle.ledger_image_ids.specs.IdLists.{view_ids};
 ghost use Rattle.ledger_image_rows_check.specs.RowTests.{key_at, keys_from, row_passes, rows_pass, ends_there, rows_stand};
 ghost use Rattle.ledger_image_rows_check.specs.Marks.{OthersDiffer};

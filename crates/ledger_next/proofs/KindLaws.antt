@@ -11,9 +11,9 @@ use Rattle.registry_state.specs.declared.RegistryState.{RegistryState}
 use Rattle.registry_state_credential.specs.declared.CredentialState.{CredentialState}
 use Rattle.registry_answer.specs.Answers.{accepts}
 use Rattle.registry_error.specs.declared.Answer.{Answer}
-use Rattle.ledger_step.specs.Steps.{after_fold}
-use Rattle.ledger_asked.specs.declared.Named.{Named}
-use Rattle.ledger_asked.specs.Names.{decodes}
+use Rattle.ledger_reading.specs.Steps.{after_fold}
+use Rattle.ledger_reading.specs.declared.Named.{Named}
+use Rattle.ledger_reading.specs.Names.{decodes}
 use Rattle.ledger_stores.specs.declared.Next.{Next}
 use Rattle.ledger_answers.specs.Checks.{asked_answer}
 use Rattle.ledger_stores.specs.Effects.{if_read, inception_named, rotation_named, issue_named, revocation_named, pair_named, kind_effect, effect_named, Leaves}

@@ -24,14 +24,14 @@ use Rattle.registry_inception.specs.declared.RegistryOutcome.{RegistryOutcome}
 use Rattle.registry_issue.specs.IssueFolds as I
 use Rattle.registry_credential_state.specs.CredentialFolds as C
 use Rattle.registry_issue.specs.declared.CredentialOutcome.{CredentialOutcome}
-use Rattle.registry_laws.specs.Pairs.{Pair}
-use Rattle.registry_laws.proofs.Chains.{all-accept}
-use Rattle.ledger_step.specs.Ledgers.{held_of}
-use Rattle.ledger_step.specs.Steps.{Effect, after_fold, held_now}
-use Rattle.ledger_step.specs.Steps.Effect.{new_registry, set_registry, new_row, set_row}
+use Rattle.ledger_reading.specs.Pairs.{Pair}
+use Rattle.ledger_reading.proofs.Chains.{all-accept}
+use Rattle.ledger_reading.specs.Ledgers.{held_of}
+use Rattle.ledger_reading.specs.Steps.{Effect, after_fold, held_now}
+use Rattle.ledger_reading.specs.Steps.Effect.{new_registry, set_registry, new_row, set_row}
 use Rattle.ledger_stores.specs.declared.Next.{Next}
 use Rattle.ledger_answers.specs.Checks.{inception_answer, rotation_answer, issue_answer, revocation_answer}
-use Rattle.ledger_asked.specs.Names.{decodes}
+use Rattle.ledger_reading.specs.Names.{decodes}
 use Rattle.ledger_reading.specs.Readings.{behind_reading}
 use Rattle.ledger_stores.specs.Effects.{if_read, inception_named, rotation_named, issue_named, revocation_named, Leaves}
 use Rattle.ledger_next.proofs.ReadingLaws.{both-after, both-accept}

@@ -25,9 +25,9 @@ use Rattle.registry_inception.specs.declared.RegistryOutcome.{RegistryOutcome}
 use Rattle.registry_issue.specs.IssueFolds as I
 use Rattle.registry_credential_state.specs.CredentialFolds as C
 use Rattle.registry_issue.specs.declared.CredentialOutcome.{CredentialOutcome}
-use Rattle.ledger_step.specs.Steps.{Effect, after_fold}
-use Rattle.ledger_asked.specs.Names.{decodes}
-use Rattle.ledger_asked.proofs.RequestLaws.{unread}
+use Rattle.ledger_reading.specs.Steps.{Effect, after_fold}
+use Rattle.ledger_reading.specs.Names.{decodes}
+use Rattle.ledger_reading.proofs.RequestLaws.{unread}
 use Rattle.ledger_answers.specs.Checks.{asked_answer, inception_answer, rotation_answer, issue_answer, revocation_answer}
 use Rattle.ledger_reading.specs.Readings.{behind_reading, reads_by}
 

@@ -1,13 +1,13 @@
 // What an attempt leaves of the registry and the row that it names (docs/RULES.md, "Ledger", "Next states"). Each function hands back what was handed in, but for the one state that an accepted attempt changes.
 ghost use Rattle.std.specs.Prelude.{◌≡◌, ltb};
 ghost use Rattle.cesr.specs.declared.Said.{Said};
-ghost use Rattle.registry_laws.specs.Pairs.{Pair};
+ghost use Rattle.ledger_reading.specs.Pairs.{Pair};
 ghost use Rattle.ledger_stores.specs.Effects.{if_read, inception_named, rotation_named, issue_named, revocation_named, effect_named, Leaves};
 
 use ledger_answers::answers::{
     asked_answer, inception_answer, issue_answer, revocation_answer, rotation_answer,
 };
-use ledger_asked::Named;
+use ledger_reading::Named;
 use ledger_reading::reading::{asked_without_fold, behind_reading};
 use ledger_stores::Next;
 use registry::registry::ingest as ingest_registry;

@@ -18,13 +18,13 @@ use Rattle.registry_state.specs.States.{Registry, read_registry}
 use Rattle.registry_state_credential.specs.CredentialStates.{read_credential}
 use Rattle.registry_state.specs.declared.RegistryState.{RegistryState}
 use Rattle.registry_state_credential.specs.declared.CredentialState.{CredentialState}
-use Rattle.ledger_step.specs.Ledgers.{held_of}
-use Rattle.ledger_step.specs.Steps.{held_now}
-use Rattle.ledger_image.specs.Images.{ImageAnswer, image_number, read_registries, image_of, image_into}
-use Rattle.ledger_image.specs.Images.ImageAnswer.{refused, held}
-use Rattle.ledger_sections.specs.RowImages.{rows_from}
-use Rattle.ledger_sections.specs.RegistrySections.{registries_in, Stored}
-use Rattle.ledger_sections.proofs.SectionHeld.{stored-held}
+use Rattle.ledger_registry_image.specs.Ledgers.{held_of}
+use Rattle.ledger_registry_image.specs.Steps.{held_now}
+use Rattle.ledger_row_image.specs.Images.{ImageAnswer, image_number, read_registries, image_of, image_into}
+use Rattle.ledger_row_image.specs.Images.ImageAnswer.{refused, held}
+use Rattle.ledger_registry_image.specs.RowImages.{rows_from}
+use Rattle.ledger_registry_image.specs.RegistrySections.{registries_in, Stored}
+use Rattle.ledger_registry_image.proofs.SectionHeld.{stored-held}
 use Rattle.ledger_image_check.specs.Checks.{ImageCheck, checked_by, checked_of}
 use Rattle.ledger_image_check.proofs.Reread.{Reread, reread}
 use Rattle.ledger_read.specs.ImageReads.{plan_of, answer_by, counts_of, counts_after, rows_after, Placed, RegistriesAfter}

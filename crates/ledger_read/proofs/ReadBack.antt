@@ -15,11 +15,11 @@ use Rattle.laws.specs.Number.{Bytes}
 use Rattle.registry_state.specs.States.{Registry}
 use Rattle.registry_state.specs.declared.RegistryState.{RegistryState}
 use Rattle.registry_state_credential.specs.declared.CredentialState.{CredentialState}
-use Rattle.ledger_step.specs.Ledgers.{Ledger, held_of, lent_ledger, sound}
-use Rattle.ledger_step.specs.Steps.{held_now}
-use Rattle.ledger_image.specs.Images.{ImageAnswer, image_number, ledger_of, ledger_bytes, states_of, Ranged, image_of, image_into}
-use Rattle.ledger_image.specs.Images.ImageAnswer.{refused, held}
-use Rattle.ledger_image.proofs.ImageRounds.{image-back, image-again}
+use Rattle.ledger_registry_image.specs.Ledgers.{Ledger, held_of, lent_ledger, sound}
+use Rattle.ledger_registry_image.specs.Steps.{held_now}
+use Rattle.ledger_row_image.specs.Images.{ImageAnswer, image_number, ledger_of, ledger_bytes, states_of, Ranged, image_of, image_into}
+use Rattle.ledger_row_image.specs.Images.ImageAnswer.{refused, held}
+use Rattle.ledger_row_image.proofs.ImageRounds.{image-back, image-again}
 use Rattle.ledger_read.specs.declared.ImageRead.{ImageRead}
 use Rattle.ledger_read.specs.ImageReads.{Counts, counts_of, counts_after, rows_after, Placed, RegistriesAfter}
 use Rattle.ledger_read.proofs.ImageStored.{into-held, few-rows}

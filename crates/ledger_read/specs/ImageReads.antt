@@ -5,10 +5,10 @@ use Rattle.codec_cursor.specs.Readers.{starting}
 use Rattle.registry_state.specs.States.{Registry}
 use Rattle.registry_state.specs.declared.RegistryState.{RegistryState}
 use Rattle.registry_state_credential.specs.declared.CredentialState.{CredentialState}
-use Rattle.ledger_step.specs.Ledgers.{held_of}
-use Rattle.ledger_step.specs.Steps.{held_now}
-use Rattle.ledger_image.specs.Images.{ImageAnswer, read_registries, image_into}
-use Rattle.ledger_image.specs.Images.ImageAnswer.{refused, held}
+use Rattle.ledger_registry_image.specs.Ledgers.{held_of}
+use Rattle.ledger_registry_image.specs.Steps.{held_now}
+use Rattle.ledger_row_image.specs.Images.{ImageAnswer, read_registries, image_into}
+use Rattle.ledger_row_image.specs.Images.ImageAnswer.{refused, held}
 use Rattle.ledger_image_check.specs.Checks.{ImageCheck, checked_by}
 use Rattle.ledger_read.specs.declared.ImageRead.{ImageRead}
 

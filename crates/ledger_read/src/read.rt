@@ -1,6 +1,6 @@
 // The image is judged whole before a state is stored: of an image that is refused nothing is stored, so what was held is held on.
 ghost use Rattle.std.specs.Prelude.{◌≡◌, length};
-ghost use Rattle.ledger_image.specs.Images.{image_into, image_number};
+ghost use Rattle.ledger_row_image.specs.Images.{image_into, image_number};
 ghost use Rattle.ledger_image_check.specs.Checks.{view_checked};
 ghost use Rattle.ledger_read.specs.ImageReads.{plan_of, answer_by, counts_of, counts_after, rows_after, RegistriesAfter};
 

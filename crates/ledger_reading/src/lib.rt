@@ -2,3 +2,5 @@
 #![tactic(auto)]
 
 pub mod reading;
+
+pub use ledger_asked::Named;

@@ -1,1 +1,3 @@
+pub use Rattle.ledger_step.specs.Ledgers
+pub use Rattle.ledger_step.specs.Tables
 pub mod Registries

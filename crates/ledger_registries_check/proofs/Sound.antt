@@ -12,11 +12,11 @@ use lib.ListN.{length, length-map, get_or, take}
 use Rattle.cesr.specs.Primitives.{eq_said}
 use Rattle.registry_state.specs.States.{view_registry, well_registry}
 use Rattle.registry_state.specs.declared.RegistryState.{RegistryState}
-use Rattle.registry_laws.specs.ReadingRules.{sound_registry}
-use Rattle.ledger_step.specs.Tables.{place}
-use Rattle.ledger_step.specs.Ledgers.{Held, held_of, id_of, keeps_layout, keeps_rules, holds, registry_rules}
-use Rattle.ledger_step.proofs.Rules.{said-test}
-use Rattle.ledger_step.proofs.TableChecks as C
+use Rattle.ledger_registry_rules.specs.ReadingRules.{sound_registry}
+use Rattle.ledger_registries.specs.Tables.{place}
+use Rattle.ledger_registries.specs.Ledgers.{Held, held_of, id_of, keeps_layout, keeps_rules, holds, registry_rules}
+use Rattle.ledger_registries.proofs.Rules.{said-test}
+use Rattle.ledger_registries.proofs.TableChecks as C
 use Rattle.ledger_registries.specs.Registries.{no_held, blank, find_registry}
 use Rattle.ledger_registries.proofs.RegistryViews.{take-held, read-there}
 

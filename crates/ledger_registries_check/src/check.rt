@@ -1,6 +1,6 @@
 // The check of all registries that are lent (docs/RULES.md, "Reading rules").
 ghost use Rattle.std.specs.Prelude.{◌≡◌, map, ◌<◌, length, take};
-ghost use Rattle.ledger_step.specs.Ledgers.{held_of, holds, registry_rules};
+ghost use Rattle.ledger_registries.specs.Ledgers.{held_of, holds, registry_rules};
 
 use ledger_registries::registries::find_registry;
 use ledger_registry_rules::rules::{passes, right_size};

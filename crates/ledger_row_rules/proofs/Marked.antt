@@ -18,7 +18,7 @@ use Rattle.laws.proofs.First.{first-none}
 use Rattle.cesr.specs.declared.Said.{Said}
 use Rattle.registry_state_credential.specs.CredentialStates.{no_credential}
 use Rattle.registry_state_credential.specs.declared.CredentialState.{CredentialState}
-use Rattle.registry_laws.specs.Pairs.{Pair, key_of}
+use Rattle.ledger_step.specs.Pairs.{Pair, key_of}
 use Rattle.ledger_step.specs.Ledgers.{eq_pair}
 use Rattle.ledger_step.specs.Tables.{place}
 use Rattle.ledger_step.proofs.Rules.{pair-test}

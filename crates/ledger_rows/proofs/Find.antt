@@ -10,7 +10,7 @@ use lib.Seq.{get_or-take}
 use Rattle.cesr.specs.declared.Said.{Said}
 use Rattle.registry_state_credential.specs.CredentialStates.{no_credential}
 use Rattle.registry_state_credential.specs.declared.CredentialState.{CredentialState}
-use Rattle.registry_laws.specs.Pairs.{Pair, key_of}
+use Rattle.ledger_step.specs.Pairs.{Pair, key_of}
 use Rattle.ledger_step.specs.Ledgers.{eq_pair}
 use Rattle.ledger_step.proofs.PlaceSteps as P
 use Rattle.ledger_rows.specs.Rows.{row_at, has_key, find_at}

@@ -12,10 +12,10 @@ use lib.Dec.{eqb, leb}
 use lib.ListN.{length, take}
 use Rattle.registry_state_credential.specs.CredentialStates.{no_credential, well_credential}
 use Rattle.registry_state_credential.specs.declared.CredentialState.{CredentialState}
-use Rattle.registry_laws.specs.Pairs.{key_of}
-use Rattle.ledger_step.specs.Ledgers.{eq_pair, zero_or_one, holds, row_rules}
-use Rattle.ledger_step.proofs.Rules.{pair-test}
-use Rattle.ledger_step.proofs.TableChecks as C
+use Rattle.ledger_rows.specs.Pairs.{key_of}
+use Rattle.ledger_rows.specs.Ledgers.{eq_pair, zero_or_one, holds, row_rules}
+use Rattle.ledger_rows.proofs.Rules.{pair-test}
+use Rattle.ledger_rows.proofs.TableChecks as C
 use Rattle.ledger_rows.specs.Rows.{row_at, find_at}
 use Rattle.ledger_row_rules.proofs.Marked.{marks_of, same_test}
 

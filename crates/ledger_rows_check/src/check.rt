@@ -1,6 +1,6 @@
 // The check of all rows that are lent (docs/RULES.md, "Reading rules").
 ghost use Rattle.std.specs.Prelude.{◌≡◌, length, take};
-ghost use Rattle.ledger_step.specs.Ledgers.{holds, row_rules};
+ghost use Rattle.ledger_rows.specs.Ledgers.{holds, row_rules};
 
 use ledger_row_rules::marks::{marked, no_marks};
 use ledger_row_rules::rules::{passes, right_size};

@@ -1,3 +1,5 @@
+pub use Rattle.ledger_step.proofs.Rules
+pub use Rattle.ledger_image.proofs.ImageLength
 pub mod RowSections
 pub mod RowTurns
 pub mod SectionHeld

@@ -3,7 +3,7 @@ use Rattle.std.specs.Prelude.{ℕ, Bool, cond, ◌&&◌, ltb}
 use Rattle.std.proofs.Math.Option.{none, some}
 use Rattle.cesr.specs.declared.Said.{Said}
 use Rattle.registry_state_credential.specs.declared.CredentialState.{CredentialState}
-use Rattle.registry_laws.specs.Pairs.{Pair}
+use Rattle.ledger_step.specs.Pairs.{Pair}
 use Rattle.ledger_step.specs.Ledgers.{LookedUp, standing_of, well_pair}
 use Rattle.ledger_standing.specs.declared.LookedUp as Code
 

@@ -19,17 +19,17 @@ use Rattle.codec_laws.proofs.CodesList.{all_snoc}
 use Rattle.registry_state.specs.States.{Registry}
 use Rattle.registry_state_credential.specs.CredentialStates.{well_credential}
 use Rattle.registry_state_credential.specs.declared.CredentialState.{CredentialState}
-use Rattle.registry_wire.specs.Attempts.{Message, Decoded, decode_of}
-use Rattle.registry_wire.specs.Attempts.Decoded.{malformed, decoded}
+use Rattle.registry_laws.specs.Attempts.{Message, Decoded, decode_of}
+use Rattle.registry_laws.specs.Attempts.Decoded.{malformed, decoded}
 use Rattle.registry_answer.specs.Answers.{accepts}
 use Rattle.registry_error.specs.declared.Answer.{Answer}
 use Rattle.registry_error.specs.declared.Answer.TheVariants.{Accepted, Rejected}
 use Rattle.registry_error.specs.declared.RegistryRejection.TheVariants.{NoRoom}
-use Rattle.registry_inception.specs.InceptionFolds as N
-use Rattle.registry.specs.RegistryFolds as R
-use Rattle.registry_issue.specs.IssueFolds as I
-use Rattle.registry_credential_state.specs.CredentialFolds as C
-use Rattle.registry_credential_state.specs.CredentialFolds.{said_of}
+use Rattle.registry_laws.specs.InceptionFolds as N
+use Rattle.registry_laws.specs.RegistryFolds as R
+use Rattle.registry_laws.specs.IssueFolds as I
+use Rattle.registry_laws.specs.CredentialFolds as C
+use Rattle.registry_laws.specs.CredentialFolds.{said_of}
 use Rattle.registry_laws.specs.Pairs.{Pair, pair_of, pair_in, key_of}
 use Rattle.registry_laws.specs.ReadingRules.{sound_registry}
 use Rattle.registry_laws.specs.States.{OneRegistry}

@@ -1,3 +1,4 @@
+pub use Rattle.registry_laws.proofs.Chains
 pub mod Cells
 pub mod Changes
 pub mod Lacking

@@ -16,7 +16,7 @@ use Rattle.cesr.specs.declared.Matter.{Matter}
 use Rattle.cesr.specs.declared.Said.{Said}
 use Rattle.registry_state.specs.States.{Registry}
 use Rattle.registry_state_credential.specs.declared.CredentialState.{CredentialState}
-use Rattle.registry_wire.specs.Attempts.{Message}
+use Rattle.registry_laws.specs.Attempts.{Message}
 use Rattle.registry_laws.specs.Pairs.{Pair, key_of}
 use Rattle.registry_laws.specs.States.{OneRegistry}
 use Rattle.ledger_step.specs.Tables.{find, put}

@@ -14,15 +14,15 @@ use Rattle.events_tel.specs.TelEvents.Event.{vcp, vrt, iss, rev, bis, brv}
 use Rattle.registry_state.specs.States.{Registry}
 use Rattle.registry_state_credential.specs.CredentialStates.{well_credential}
 use Rattle.registry_state_credential.specs.declared.CredentialState.{CredentialState}
-use Rattle.registry_wire.specs.Attempts.{Message}
+use Rattle.registry_laws.specs.Attempts.{Message}
 use Rattle.registry_answer.specs.Answers.{accepts, accept_if}
 use Rattle.registry_error.specs.declared.RegistryRejection.TheVariants.{InconsistentRegistry}
 use Rattle.registry_answer.proofs.AnswerLaws.{or-second, passed}
-use Rattle.registry_authentication.specs.Issuers.{issuer_kind}
-use Rattle.registry_inception.specs.InceptionFolds as N
-use Rattle.registry_issue.specs.IssueFolds as I
-use Rattle.registry_credential_state.specs.CredentialFolds as C
-use Rattle.registry_credential_state.specs.CredentialFolds.{said_of}
+use Rattle.registry_laws.specs.Issuers.{issuer_kind}
+use Rattle.registry_laws.specs.InceptionFolds as N
+use Rattle.registry_laws.specs.IssueFolds as I
+use Rattle.registry_laws.specs.CredentialFolds as C
+use Rattle.registry_laws.specs.CredentialFolds.{said_of}
 use Rattle.registry_laws.proofs.Chains.{all-accept}
 use Rattle.registry_laws.proofs.Issues.{issue-names}
 use Rattle.ledger_step.specs.Ledgers.{zero_or_one}

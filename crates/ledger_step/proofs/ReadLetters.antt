@@ -18,9 +18,9 @@ use Rattle.codec_cursor.specs.Readers.{Read, Reader, starting, need, read_byte, 
 use Rattle.codec.specs.Events.{vcp_of, vrt_of, iss_of, rev_of, bis_of, brv_of, read_seal, read_vcp, read_vrt, read_iss, read_rev, read_bis, read_brv, read_kind, read_event}
 use Rattle.codec_laws.proofs.Stands.{passed}
 use Rattle.codec_laws.proofs.Sticky.{Sticky, sticky-both, sticky-byte, sticky-number, sticky-said, sticky-identifier, sticky-counted, sticky-after, sticky-ended, sticky-toad, sticky-configs, sticky-prefixes, sticky-seal}
-use Rattle.registry_wire.specs.Attempts.{Message, decode_of, message_of, read_message}
-use Rattle.registry_wire.specs.Attempts.Decoded.{malformed, decoded}
-use Rattle.registry_wire.proofs.StickyAttempt.{sticky-sections}
+use Rattle.registry_laws.specs.Attempts.{Message, decode_of, message_of, read_message}
+use Rattle.registry_laws.specs.Attempts.Decoded.{malformed, decoded}
+use Rattle.registry_laws.proofs.StickyAttempt.{sticky-sections}
 
 record Told {A : Type 0} (P : A → Type 0) (c : Cursor) (r : Read A) : Type 0 where
   ok : c.ok ≡ true

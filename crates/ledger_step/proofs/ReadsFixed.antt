@@ -7,10 +7,10 @@ use Rattle.events_tel.specs.TelEvents.{Event}
 use Rattle.events_tel.specs.TelEvents.Event.{vcp, vrt, iss, rev, bis, brv}
 use Rattle.registry_state.specs.States.{Registry}
 use Rattle.registry_state_credential.specs.declared.CredentialState.{CredentialState}
-use Rattle.registry_wire.specs.Attempts.{Message, Evidence}
-use Rattle.registry_wire.specs.Attempts.Evidence.{backer}
-use Rattle.registry_issue.specs.IssueFolds as I
-use Rattle.registry_credential_state.specs.CredentialFolds as C
+use Rattle.registry_laws.specs.Attempts.{Message, Evidence}
+use Rattle.registry_laws.specs.Attempts.Evidence.{backer}
+use Rattle.registry_laws.specs.IssueFolds as I
+use Rattle.registry_laws.specs.CredentialFolds as C
 use Rattle.registry_laws.specs.States.{OneRegistry}
 use Rattle.registry_laws.proofs.UsedFields.{issue-reads, revocation-reads}
 use Rattle.ledger_step.specs.OrderFreedom.{is_head, takes_head}

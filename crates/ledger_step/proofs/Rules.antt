@@ -12,7 +12,7 @@ use Rattle.cesr.specs.Primitives.{eq_said}
 use Rattle.cesr.proofs.Matters.{eq-said, said-eq}
 use Rattle.codec.specs.Layout.{all}
 use Rattle.registry_state_credential.specs.CredentialStates.{well_credential}
-use Rattle.registry_verification.specs.Starred.{All}
+use Rattle.registry_laws.specs.Starred.{All}
 use Rattle.registry_laws.specs.Pairs.{key_of}
 use Rattle.ledger_step.specs.Tables.{distinct}
 use Rattle.ledger_step.specs.Ledgers.{Ledger, eq_pair, ids_of, holds, keeps_layout, keeps_rules, has_registry, zero_or_one, rules, sound}

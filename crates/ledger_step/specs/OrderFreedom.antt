@@ -5,8 +5,8 @@ use Rattle.std.proofs.Math.ListN.{get_elem?}
 use Rattle.cesr.specs.declared.Said.{Said}
 use Rattle.events_tel.specs.TelEvents.{Event}
 use Rattle.events_tel.specs.TelEvents.Event.{vcp, vrt, iss, rev, bis, brv}
-use Rattle.registry_wire.specs.Attempts.{Evidence}
-use Rattle.registry_wire.specs.Attempts.Evidence.{missing, issuer, backer, backer_at}
+use Rattle.registry_laws.specs.Attempts.{Evidence}
+use Rattle.registry_laws.specs.Attempts.Evidence.{missing, issuer, backer, backer_at}
 use Rattle.registry_disposition.specs.Dispositions.{awaited_of}
 use Rattle.registry_error.specs.Errors.{answer_number, answer_letter, disposition_of, details_of}
 use Rattle.registry_error.specs.declared.Answer.{Answer}

@@ -7,16 +7,16 @@ use Rattle.events_tel.specs.TelEvents.{Event}
 use Rattle.events_tel.specs.TelEvents.Event.{vcp, vrt, iss, rev, bis, brv}
 use Rattle.registry_state.specs.States.{Registry}
 use Rattle.registry_state_credential.specs.declared.CredentialState.{CredentialState}
-use Rattle.registry_wire.specs.Attempts.{Message, Decoded, decode_of}
-use Rattle.registry_wire.specs.Attempts.Decoded.{malformed, decoded}
+use Rattle.registry_laws.specs.Attempts.{Message, Decoded, decode_of}
+use Rattle.registry_laws.specs.Attempts.Decoded.{malformed, decoded}
 use Rattle.registry_error.specs.declared.Answer.{Answer}
 use Rattle.registry_error.specs.declared.Answer.TheVariants.{Accepted, Rejected}
 use Rattle.registry_error.specs.declared.RegistryRejection.{RegistryRejection}
 use Rattle.registry_error.specs.declared.RegistryRejection.TheVariants.{Malformed, MissingRegistry, DuplicateInception, AlreadyIssued, MissingCredentialState, InconsistentRegistry, NoRoom}
-use Rattle.registry_inception.specs.InceptionFolds as N
-use Rattle.registry.specs.RegistryFolds as R
-use Rattle.registry_issue.specs.IssueFolds as I
-use Rattle.registry_credential_state.specs.CredentialFolds as C
+use Rattle.registry_laws.specs.InceptionFolds as N
+use Rattle.registry_laws.specs.RegistryFolds as R
+use Rattle.registry_laws.specs.IssueFolds as I
+use Rattle.registry_laws.specs.CredentialFolds as C
 use Rattle.registry_laws.specs.Pairs.{Pair, pair_in, key_of}
 use Rattle.ledger_step.specs.Tables.{put}
 use Rattle.ledger_step.specs.Ledgers.{Held, Ledger, id_of, eq_pair, registry_at, row_at, sound}

@@ -23,16 +23,16 @@ use Rattle.registry_error.specs.declared.Answer.{Answer}
 use Rattle.registry_error.specs.declared.Answer.TheVariants.{Accepted, Rejected}
 use Rattle.registry_error.specs.declared.RegistryRejection.TheVariants.{Malformed, NoRoom}
 use Rattle.registry_inception.specs.InceptionFolds as N
-use Rattle.registry.specs.RegistryFolds as R
+use Rattle.ledger_rows.specs.RegistryFolds as R
 use Rattle.registry_issue.specs.IssueFolds as I
-use Rattle.registry_credential_state.specs.CredentialFolds as C
-use Rattle.registry_laws.specs.Pairs.{Pair, pair_in, key_of}
-use Rattle.ledger_step.specs.Ledgers.{Ledger, held_of, id_of, eq_pair, registry_at, row_at, keeps_layout, sound}
-use Rattle.ledger_step.specs.Steps.{Request, revocation_of, event_request, decoded_request, request_of, Effect, after_fold, inception_effect, rotation_effect, issue_effect, revocation_effect, effect_of, effect}
-use Rattle.ledger_step.specs.Steps.Request.{nothing, inception, rotation, issue, revocation}
-use Rattle.ledger_step.specs.Steps.Effect.{refuse, new_registry, set_registry, new_row, set_row}
-use Rattle.ledger_step.proofs.TableLaws.{all-find}
-use Rattle.ledger_step.proofs.Rules.{Keeps, parts}
+use Rattle.ledger_rows.specs.CredentialFolds as C
+use Rattle.ledger_rows.specs.Pairs.{Pair, pair_in, key_of}
+use Rattle.ledger_rows.specs.Ledgers.{Ledger, held_of, id_of, eq_pair, registry_at, row_at, keeps_layout, sound}
+use Rattle.ledger_rows.specs.Steps.{Request, revocation_of, event_request, decoded_request, request_of, Effect, after_fold, inception_effect, rotation_effect, issue_effect, revocation_effect, effect_of, effect}
+use Rattle.ledger_rows.specs.Steps.Request.{nothing, inception, rotation, issue, revocation}
+use Rattle.ledger_rows.specs.Steps.Effect.{refuse, new_registry, set_registry, new_row, set_row}
+use Rattle.ledger_rows.proofs.TableLaws.{all-find}
+use Rattle.ledger_rows.proofs.Rules.{Keeps, parts}
 use Rattle.ledger_asked.specs.declared.Named.{Named}
 use Rattle.ledger_asked.specs.Names.{named_of, head_named, is_decoded, decodes}
 use Rattle.ledger_asked.proofs.RequestLaws.{named-head, asks_nothing}

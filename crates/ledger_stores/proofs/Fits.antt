@@ -15,15 +15,15 @@ use Rattle.registry_error.specs.declared.Answer.{Answer}
 use Rattle.registry_error.specs.declared.Answer.TheVariants.{Accepted, Rejected}
 use Rattle.registry_error.specs.declared.RegistryRejection.TheVariants.{Malformed, NoRoom}
 use Rattle.registry_inception.specs.InceptionFolds as N
-use Rattle.registry.specs.RegistryFolds as R
+use Rattle.ledger_rows.specs.RegistryFolds as R
 use Rattle.registry_issue.specs.IssueFolds as I
-use Rattle.registry_credential_state.specs.CredentialFolds as C
-use Rattle.registry_laws.specs.Pairs.{Pair}
-use Rattle.ledger_step.specs.Ledgers.{Held, Ledger, registry_at, row_at, sound}
-use Rattle.ledger_step.specs.Steps.{Request, request_of, Effect, after_fold, with_room, inception_effect, rotation_effect, issue_effect, revocation_effect, effect_of, effect}
-use Rattle.ledger_step.specs.Steps.Request.{nothing, inception, rotation, issue, revocation}
-use Rattle.ledger_step.specs.Steps.Effect.{refuse, new_registry, set_registry, new_row, set_row}
-use Rattle.ledger_step.proofs.Rules.{Keeps, parts}
+use Rattle.ledger_rows.specs.CredentialFolds as C
+use Rattle.ledger_rows.specs.Pairs.{Pair}
+use Rattle.ledger_rows.specs.Ledgers.{Held, Ledger, registry_at, row_at, sound}
+use Rattle.ledger_rows.specs.Steps.{Request, request_of, Effect, after_fold, with_room, inception_effect, rotation_effect, issue_effect, revocation_effect, effect_of, effect}
+use Rattle.ledger_rows.specs.Steps.Request.{nothing, inception, rotation, issue, revocation}
+use Rattle.ledger_rows.specs.Steps.Effect.{refuse, new_registry, set_registry, new_row, set_row}
+use Rattle.ledger_rows.proofs.Rules.{Keeps, parts}
 use Rattle.ledger_asked.specs.declared.Named.{Named}
 use Rattle.ledger_asked.specs.Names.{named_of, head_named, decodes}
 use Rattle.ledger_asked.proofs.RequestLaws.{named-head, asks_nothing}

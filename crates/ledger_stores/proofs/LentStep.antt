@@ -20,12 +20,12 @@ use Rattle.cesr.specs.declared.Said.{Said}
 use Rattle.registry_state_credential.specs.CredentialStates.{no_credential}
 use Rattle.registry_state.specs.declared.RegistryState.{RegistryState}
 use Rattle.registry_state_credential.specs.declared.CredentialState.{CredentialState}
-use Rattle.registry_laws.specs.Pairs.{Pair, key_of}
-use Rattle.ledger_step.specs.Tables.{put, place}
-use Rattle.ledger_step.specs.Ledgers.{Held, Ledger, held_of, id_of, eq_pair, lent_ledger, sound}
-use Rattle.ledger_step.specs.Steps.{Effect, request_of, effect, answer_of, changed, held_now, step_of}
-use Rattle.ledger_step.specs.Steps.Effect.{refuse, new_registry, set_registry, new_row, set_row}
-use Rattle.ledger_step.proofs.Rules.{Keeps, parts}
+use Rattle.ledger_rows.specs.Pairs.{Pair, key_of}
+use Rattle.ledger_rows.specs.Tables.{put, place}
+use Rattle.ledger_rows.specs.Ledgers.{Held, Ledger, held_of, id_of, eq_pair, lent_ledger, sound}
+use Rattle.ledger_rows.specs.Steps.{Effect, request_of, effect, answer_of, changed, held_now, step_of}
+use Rattle.ledger_rows.specs.Steps.Effect.{refuse, new_registry, set_registry, new_row, set_row}
+use Rattle.ledger_rows.proofs.Rules.{Keeps, parts}
 use Rattle.ledger_registries.specs.Registries.{no_held, blank, find_registry}
 use Rattle.ledger_registries.proofs.RegistryViews.{found-registry, stored-registry}
 use Rattle.ledger_asked.specs.declared.Named.{Named}

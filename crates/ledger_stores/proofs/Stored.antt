@@ -15,8 +15,8 @@ use lib.ListN.{length, get_or, set, take}
 use lib.Seq.{length-take-le, get_or-take, set_out, take-set-le, take-set-lt}
 use Rattle.laws.specs.First.{first}
 use Rattle.laws.proofs.Views.{kept-size, kept_push, seen_size, seen-push}
-use Rattle.ledger_step.specs.Tables.{find, put, place}
-use Rattle.ledger_step.proofs.PlaceLaws.{place-cons, find-place, put-place}
+use Rattle.ledger_rows.specs.Tables.{find, put, place}
+use Rattle.ledger_rows.proofs.PlaceLaws.{place-cons, find-place, put-place}
 
 module _ {X K : Type 0} (key : X → K) (eq : K → K → Bool) (blank : X) (k : K) where
   pub place-absent : (l : List X) → find key eq k l ≡ none → place key eq blank k l ≡ length l

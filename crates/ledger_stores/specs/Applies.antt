@@ -2,9 +2,9 @@
 use Rattle.std.specs.Prelude.{ℕ, ◌+◌, ◌≡◌, List, set}
 use Rattle.registry_state.specs.declared.RegistryState.{RegistryState}
 use Rattle.registry_state_credential.specs.declared.CredentialState.{CredentialState}
-use Rattle.ledger_step.specs.Ledgers.{held_of}
-use Rattle.ledger_step.specs.Steps.{Effect, held_now}
-use Rattle.ledger_step.specs.Steps.Effect.{refuse, new_registry, set_registry, new_row, set_row}
+use Rattle.ledger_rows.specs.Ledgers.{held_of}
+use Rattle.ledger_rows.specs.Steps.{Effect, held_now}
+use Rattle.ledger_rows.specs.Steps.Effect.{refuse, new_registry, set_registry, new_row, set_row}
 use Rattle.ledger_rows.specs.Rows.{find_at}
 use Rattle.ledger_registries.specs.Registries.{find_registry}
 use Rattle.ledger_stores.specs.declared.Next.{Next}

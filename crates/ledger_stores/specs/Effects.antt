@@ -7,13 +7,13 @@ use Rattle.registry_answer.specs.Answers.{accept_if}
 use Rattle.registry_error.specs.declared.Answer.TheVariants.{Accepted, Rejected}
 use Rattle.registry_error.specs.declared.RegistryRejection.TheVariants.{Malformed}
 use Rattle.registry_inception.specs.InceptionFolds as N
-use Rattle.registry.specs.RegistryFolds as R
+use Rattle.ledger_rows.specs.RegistryFolds as R
 use Rattle.registry_issue.specs.IssueFolds as I
-use Rattle.registry_credential_state.specs.CredentialFolds as C
-use Rattle.registry_laws.specs.Pairs.{Pair}
-use Rattle.ledger_step.specs.Ledgers.{held_of}
-use Rattle.ledger_step.specs.Steps.{Effect, after_fold, held_now}
-use Rattle.ledger_step.specs.Steps.Effect.{refuse, new_registry, set_registry, new_row, set_row}
+use Rattle.ledger_rows.specs.CredentialFolds as C
+use Rattle.ledger_rows.specs.Pairs.{Pair}
+use Rattle.ledger_rows.specs.Ledgers.{held_of}
+use Rattle.ledger_rows.specs.Steps.{Effect, after_fold, held_now}
+use Rattle.ledger_rows.specs.Steps.Effect.{refuse, new_registry, set_registry, new_row, set_row}
 use Rattle.ledger_asked.specs.declared.Named.{Named}
 use Rattle.ledger_asked.specs.Names.{decodes}
 use Rattle.ledger_answers.specs.Checks.{asked_answer, inception_answer, rotation_answer, issue_answer, revocation_answer}

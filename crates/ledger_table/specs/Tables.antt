@@ -1,5 +1,5 @@
 -- A ledger in memory, and what an image leaves of it (docs/RULES.md, "Ledger", "Image").
-use Rattle.ledger_step.specs.Ledgers as L
+use Rattle.ledger_image.specs.Ledgers as L
 use Rattle.ledger_image.specs.Images.{ImageAnswer, ledger_of}
 use Rattle.ledger_image.specs.Images.ImageAnswer.{refused, held}
 use Rattle.ledger_table.specs.declared.Ledger.{Ledger}

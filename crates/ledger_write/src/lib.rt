@@ -2,3 +2,5 @@
 #![tactic(auto)]
 
 pub mod write;
+
+pub use ledger_written::Written;

@@ -1,7 +1,7 @@
 // A ledger's image, written to the start of a buffer: the section of its registries, and behind it the section of its credentials (docs/RULES.md, "Image").
 ghost use Rattle.std.specs.Prelude.{◌≡◌};
 ghost use Rattle.ledger_step.specs.Ledgers.{lent_ledger};
-ghost use Rattle.ledger_image.specs.Images.{written_of};
+ghost use Rattle.ledger_row_image.specs.Images.{written_of};
 ghost use Rattle.ledger_written.specs.Writes.{view_written};
 
 use ledger_check::check::sound;

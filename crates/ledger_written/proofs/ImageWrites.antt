@@ -21,10 +21,10 @@ use Rattle.registry_state.specs.States.{Registry, view_registry, registry_bytes}
 use Rattle.registry_state.specs.declared.RegistryState.{RegistryState}
 use Rattle.registry_state_credential.specs.declared.CredentialState.{CredentialState}
 use Rattle.registry_state.proofs.StateLoops.{length-registry}
-use Rattle.ledger_step.specs.Ledgers.{Ledger, held_of, lent_ledger, sound}
-use Rattle.ledger_step.proofs.Rules.{parts}
-use Rattle.ledger_image.specs.Images.{state_of, states_of, ledger_bytes, image_bytes, registry_section, credential_section, registry_size, Written, written_of}
-use Rattle.ledger_image.proofs.ImageLength.{length-wide, length-image}
+use Rattle.ledger_sections.specs.Ledgers.{Ledger, held_of, lent_ledger, sound}
+use Rattle.ledger_sections.proofs.Rules.{parts}
+use Rattle.ledger_sections.specs.Images.{state_of, states_of, ledger_bytes, image_bytes, registry_section, credential_section, registry_size, Written, written_of}
+use Rattle.ledger_sections.proofs.ImageLength.{length-wide, length-image}
 use Rattle.ledger_sections.specs.RegistrySections.{section_of}
 use Rattle.ledger_sections.specs.RowImages.{written_rows}
 use Rattle.ledger_sections.proofs.RowSections.{written-section}

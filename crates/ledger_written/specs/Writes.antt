@@ -1,7 +1,7 @@
 -- What writing the image of a lent ledger answers (docs/RULES.md, "Image").
 use Rattle.std.specs.Prelude.{ℕ, ◌+◌, ◌*◌, Bool, cond, List, length}
 use Rattle.std.proofs.lemmas.List.Edits.{sets}
-use Rattle.ledger_image.specs.Images.{Written}
+use Rattle.ledger_sections.specs.Images.{Written}
 use Rattle.ledger_written.specs.declared.Written as Code
 
 -- what the code answers and leaves in the buffer stands for

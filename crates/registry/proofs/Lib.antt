@@ -1,2 +1,3 @@
+pub use Rattle.registry_inception.proofs.InceptionLaws
 pub mod RegistryLaws
 pub mod WellLaws

@@ -5,7 +5,7 @@ ghost use Rattle.events.specs.Members.{view};
 ghost use Rattle.events_tel.specs.TelEvents.{members_in};
 ghost use Rattle.events_tel.specs.declared.Kind.TheVariants.{Vrt};
 ghost use Rattle.registry_state.specs.States.{view_registry, well_registry};
-ghost use Rattle.registry_wire.specs.Attempts.{view_attempt};
+ghost use Rattle.registry_backer.specs.Attempts.{view_attempt};
 ghost use Rattle.registry_signatures.specs.SignatureSections.{signatures_in};
 ghost use Rattle.registry_error.specs.declared.Answer.TheVariants.{Rejected};
 ghost use Rattle.registry_answer.specs.Answers.{accepts};
@@ -20,6 +20,7 @@ use events_tel::{Kind, Listed};
 use events_toad::Toad;
 use registry_answer::answer::{accept_if, accepts, backer_set, or_else};
 use registry_authentication::issuer::authenticate_issuer;
+use registry_backer::Attempt;
 use registry_backing::backing::enough_receipts;
 use registry_error::{Answer, RegistryRejection};
 use registry_inception::RegistryOutcome;
@@ -30,7 +31,6 @@ use registry_rotation_held::held::check_current;
 use registry_signatures::Counted;
 use registry_state::RegistryState;
 use registry_verification::sequence::next_sn;
-use registry_wire::Attempt;
 
 // The members after a rotation, where its lists, its toad and its receipts pass.
 #[derive(Clone, Copy)]

@@ -1,7 +1,7 @@
 -- Answers, and the order of checks (docs/RULES.md, "Orders").
 use Rattle.std.specs.Prelude.{List, [], ◌∷◌, Bool, true, false, cond}
-use Rattle.events.specs.declared.Membership.{Membership}
-use Rattle.events.specs.declared.Membership.TheVariants.{Sound, Broken}
+use Rattle.registry_error.specs.declared.Membership.{Membership}
+use Rattle.registry_error.specs.declared.Membership.TheVariants.{Sound, Broken}
 use Rattle.registry_error.specs.declared.RegistryRejection.{RegistryRejection}
 use Rattle.registry_error.specs.declared.RegistryRejection.TheVariants.{BackerSet}
 use Rattle.registry_error.specs.declared.Answer.{Answer}

@@ -2,8 +2,7 @@
 ghost use Rattle.std.specs.Prelude.{◌≡◌};
 ghost use Rattle.registry_answer.specs.Answers.{accepts, accept_if, backer_set, or_else};
 
-use events::Membership;
-use registry_error::{Answer, RegistryRejection};
+use registry_error::{Answer, Membership, RegistryRejection};
 
 pub fn accepts(answer: Answer) -> bool
     ensures { result ≡ accepts answer }

@@ -14,7 +14,7 @@ use Rattle.cesr.specs.declared.Matter.{Matter}
 use Rattle.cesr.specs.declared.Said.{Said}
 use Rattle.codec.specs.Layout.{joined, all}
 use Rattle.registry_wire.specs.Attempts.{Anchor, anchor_bytes, good_anchor, good_anchors}
-use Rattle.registry_source.specs.declared.Source.{Source}
+use Rattle.registry_wire.specs.declared.Source.{Source}
 use Rattle.registry_wire.proofs.AttemptLaws.{anchor-some}
 use Rattle.registry_wire.proofs.AnchorLaws.{event-head, event-seals, one-event}
 use Rattle.registry_authentication.specs.Issuers.{anchored, anchored_in}

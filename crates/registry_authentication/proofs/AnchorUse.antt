@@ -19,13 +19,13 @@ use Rattle.cesr_sn.specs.declared.Sn.{Sn}
 use Rattle.cesr.specs.declared.Matter.{Matter}
 use Rattle.cesr.specs.declared.Said.{Said}
 use Rattle.codec.specs.Layout.{joined, all, good_event, good_identifier}
-use Rattle.registry_source.specs.Sources.{good_source}
+use Rattle.registry_wire.specs.Sources.{good_source}
 use Rattle.registry_wire.specs.Attempts.{Anchor, Decoded, anchor_bytes, good_anchors, good_evidence, good_message, chosen_anchors, anchors_in, sources_in, evidence_of, evidence_as, evidence_in, view_attempt, view_decoded, decode_of, part_of, Holds}
 use Rattle.registry_signatures.specs.SignatureSections.{good_signature}
 use Rattle.registry_seals.specs.SealSections.{chosen}
 use Rattle.registry_wire.specs.Attempts.Evidence.{issuer}
 use Rattle.registry_wire.specs.Attempts.Decoded.{malformed, decoded}
-use Rattle.registry_source.specs.declared.Source.{Source}
+use Rattle.registry_wire.specs.declared.Source.{Source}
 use Rattle.registry_wire.specs.declared.Part.{Part}
 use Rattle.registry_wire.specs.declared.Attempt.{Attempt}
 use Rattle.registry_wire.specs.declared.DecodedAttempt.{DecodedAttempt}

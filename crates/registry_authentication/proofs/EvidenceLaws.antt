@@ -9,7 +9,7 @@ use borrow.Author.Tests.{ne_eqb}
 use lib.Dec.{eqb}
 use Rattle.cesr.specs.Primitives.{eq_matter}
 use Rattle.cesr.specs.declared.Matter.{Matter}
-use Rattle.registry_state.specs.States.{Registry}
+use Rattle.registry_wire.specs.States.{Registry}
 use Rattle.registry_wire.specs.Attempts.{Evidence, evidence_of}
 use Rattle.registry_wire.specs.declared.Part.{Part}
 use Rattle.registry_error.specs.declared.Answer.{Answer}

@@ -1,3 +1,4 @@
+pub use Rattle.registry_wire.proofs.CodesAttempt
 pub mod AnchorTie
 pub mod AnchorUse
 pub mod EvidenceLaws

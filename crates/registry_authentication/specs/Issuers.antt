@@ -10,7 +10,7 @@ use Rattle.registry_seals.specs.SealSections.{only_seal, seal_section, anchor_se
 use Rattle.registry_wire.specs.Attempts.Evidence.{missing, issuer, backer, backer_at}
 use Rattle.registry_wire.specs.Attempts.{good_anchors, anchors_in, Holds}
 use Rattle.registry_wire.specs.declared.Attempt.{Attempt}
-use Rattle.registry_source.specs.declared.Source.{Source}
+use Rattle.registry_wire.specs.declared.Source.{Source}
 use Rattle.registry_error.specs.declared.RegistryRejection.TheVariants.{MissingIssuer, InconsistentIssuer, MissingAnchor, InconsistentAnchor}
 use Rattle.registry_error.specs.declared.Answer.{Answer}
 use Rattle.registry_error.specs.declared.Answer.TheVariants.{Accepted, Rejected}

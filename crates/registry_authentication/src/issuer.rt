@@ -2,9 +2,9 @@
 ghost use Rattle.std.specs.Prelude.{ℕ, ◌≡◌, List};
 ghost use Rattle.cesr.specs.Primitives.{read_matter, said_at};
 ghost use Rattle.cesr.specs.declared.Matter.{Matter as MatterValue};
-ghost use Rattle.registry_state.specs.States.{optional};
+ghost use Rattle.registry_wire.specs.States.{optional};
 ghost use Rattle.codec_cursor.specs.declared.Cursor.{Cursor as CursorValue};
-ghost use Rattle.registry_source.specs.Sources.{read_source};
+ghost use Rattle.registry_wire.specs.Sources.{read_source};
 ghost use Rattle.registry_wire.specs.Attempts.{evidence_as, part_of};
 ghost use Rattle.registry_seals.specs.SealSections.{chosen as chosenEvent};
 ghost use Rattle.registry_wire.specs.declared.Part.{Part as PartValue};
@@ -16,8 +16,7 @@ use codec_cursor::Cursor;
 use registry_answer::answer::{accept_if, accepts};
 use registry_error::{Answer, RegistryRejection};
 use registry_seals::seals::{anchor_seals, chosen, chosen_seals};
-use registry_source::Source;
-use registry_wire::Part;
+use registry_wire::{Part, Source};
 
 // Whether the evidence that is due, Issuer, is there: by its byte, whatever it holds.
 pub fn issuer_kind(evidence: u8) -> Answer

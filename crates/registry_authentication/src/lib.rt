@@ -2,3 +2,5 @@
 #![tactic(auto)]
 
 pub mod issuer;
+
+pub use registry_wire::{Attempt, DecodedAttempt, RegistryState};

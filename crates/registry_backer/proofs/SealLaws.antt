@@ -8,7 +8,7 @@ use Rattle.cesr_sn.specs.declared.Sn.{Sn}
 use Rattle.events_seal.specs.declared.Identifier.{Identifier}
 use Rattle.events_seal.specs.declared.Seal.{Seal}
 use Rattle.events_seal.specs.declared.Seal.TheVariants.{Event}
-use Rattle.registry_state.specs.States.{Registry}
+use Rattle.registry_wire.specs.States.{Registry}
 use Rattle.registry_wire.specs.Attempts.{Evidence}
 use Rattle.registry_error.specs.declared.Answer.TheVariants.{Rejected}
 use Rattle.registry_error.specs.declared.RegistryRejection.TheVariants.{InconsistentManagement}

@@ -1,1 +1,2 @@
+pub use Rattle.registry_wire.specs.Attempts
 pub mod Backers

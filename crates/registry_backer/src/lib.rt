@@ -2,3 +2,5 @@
 #![tactic(auto)]
 
 pub mod backer;
+
+pub use registry_wire::{Attempt, DecodedAttempt};

@@ -2,19 +2,19 @@
 ghost use Rattle.std.specs.Prelude.{min, ◌≡◌, List};
 ghost use Rattle.cesr.specs.declared.BasicPrefix.{BasicPrefix};
 ghost use Rattle.events.specs.Members.{view};
-ghost use Rattle.events_tel.specs.TelEvents.{members_in};
-ghost use Rattle.registry_signatures.specs.SignatureSections.{signatures_in};
+ghost use Rattle.codec.specs.TelEvents.{members_in};
+ghost use Rattle.registry_verification.specs.SignatureSections.{signatures_in};
 ghost use Rattle.registry_backing.specs.Backings.{enough_receipts, backed_by, Backs, own_where};
 
+use codec::Listed;
 use codec::section::at_most_16;
 use events::{Members, Membership};
 use events_member_set::MemberSet;
-use events_tel::Listed;
 use events_toad::Toad;
 use registry_answer::answer::{accept_if, accepts, backer_set};
 use registry_error::{Answer, RegistryRejection};
 use registry_rotation::deltas::check_members;
-use registry_signatures::Counted;
+use registry_verification::Counted;
 use registry_verification::verification::valid_receipts;
 
 // Whether a toad is met by the good signatures of so many backers, the first 16 of them.

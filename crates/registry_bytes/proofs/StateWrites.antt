@@ -22,7 +22,7 @@ use Rattle.cesr.specs.declared.Matter.{Matter}
 use Rattle.cesr.specs.declared.BasicPrefix.{BasicPrefix}
 use Rattle.cesr.proofs.Matters.{length-matter}
 use Rattle.events.specs.Members.{no_prefix, at}
-use Rattle.codec.specs.Layout.{joined, section_bytes, byte_bytes, prefix_bytes}
+use Rattle.codec_laws.specs.Layout.{joined, section_bytes, byte_bytes, prefix_bytes}
 use Rattle.codec_laws.proofs.CodesList.{joined_snoc}
 use Rattle.registry_head.specs.HeadBytes.{head_bytes}
 use Rattle.registry_head.proofs.HeadWrites.{length-head}

@@ -1,1 +1,2 @@
+pub use Rattle.registry_head.specs.HeadBytes
 pub mod StateBytes

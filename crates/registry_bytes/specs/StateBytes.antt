@@ -4,7 +4,7 @@ use Rattle.laws.specs.Number.{digits}
 use Rattle.cesr_sn.specs.declared.Sn.{Sn}
 use Rattle.cesr.specs.declared.Matter.{Matter}
 use Rattle.cesr.specs.declared.BasicPrefix.{BasicPrefix}
-use Rattle.codec.specs.Layout.{section_bytes, prefix_bytes, byte_bytes}
+use Rattle.codec_laws.specs.Layout.{section_bytes, prefix_bytes, byte_bytes}
 use Rattle.registry_head.specs.HeadBytes.{head_bytes}
 
 -- what stands behind the head of a registry state

@@ -3,17 +3,17 @@ ghost use Rattle.std.specs.Prelude.{◌≡◌, ◌+◌, ◌*◌, ◌≤◌, leng
 ghost use Rattle.std.proofs.lemmas.List.Edits.{sets};
 ghost use Rattle.laws.specs.Room.{room, put};
 ghost use Rattle.cesr.specs.Primitives.{read_matter};
-ghost use Rattle.events_tel.specs.Configs.{view_configs};
+ghost use Rattle.codec_laws.specs.Configs.{view_configs};
 ghost use Rattle.events.specs.Members.{view};
-ghost use Rattle.codec.specs.Layout.{section_bytes, byte_bytes, prefix_bytes};
+ghost use Rattle.codec_laws.specs.Layout.{section_bytes, byte_bytes, prefix_bytes};
 ghost use Rattle.registry_bytes.specs.StateBytes.{rest_bytes, front_bytes, state_bytes};
 
 use cesr::Matter;
 use cesr_number::number::{has_room, write_u32};
 use cesr_sn::Sn;
 use cesr_write::matter::write_matter;
+use codec_laws::Configs;
 use events::Members;
-use events_tel::Configs;
 use events_toad::Toad;
 use registry_head::head::{copy_credential, write_credential};
 

@@ -18,9 +18,9 @@ use Rattle.events_tel.specs.declared.Kind.TheVariants.{Vcp, Vrt, Iss, Rev, Bis, 
 use Rattle.events_tel.specs.declared.TelEvent.{TelEvent}
 use Rattle.registry_state.specs.States.{Registry, read_registry}
 use Rattle.registry_state_credential.specs.declared.CredentialState.{CredentialState}
-use Rattle.registry_wire.specs.Attempts.{Message, view_attempt, view_decoded, decode_of}
-use Rattle.registry_wire.specs.declared.Attempt.{Attempt}
-use Rattle.registry_wire.specs.declared.DecodedAttempt.{DecodedAttempt}
+use Rattle.registry_backer.specs.Attempts.{Message, view_attempt, view_decoded, decode_of}
+use Rattle.registry_backer.specs.declared.Attempt.{Attempt}
+use Rattle.registry_backer.specs.declared.DecodedAttempt.{DecodedAttempt}
 use Rattle.registry_authentication.proofs.AnchorUse.{judged-decoded, judged-malformed}
 use Rattle.registry_answer.specs.Answers.{accepts, accept_if, first_of}
 use Rattle.registry_answer.proofs.AnswerLaws.{first-refused, first-accepted, first-last}

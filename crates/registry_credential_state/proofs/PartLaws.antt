@@ -17,8 +17,8 @@ use Rattle.events_tel.specs.declared.TelEvent.{TelEvent}
 use Rattle.registry_state.specs.States.{Registry}
 use Rattle.registry_state_credential.specs.declared.CredentialState.{CredentialState}
 use Rattle.registry_signatures.specs.SignatureSections.{signatures_in}
-use Rattle.registry_wire.specs.Attempts.{Message, view_attempt}
-use Rattle.registry_wire.specs.declared.Attempt.{Attempt}
+use Rattle.registry_backer.specs.Attempts.{Message, view_attempt}
+use Rattle.registry_backer.specs.declared.Attempt.{Attempt}
 use Rattle.registry_answer.specs.Answers.{accepts, accept_if, or_else, first_of}
 use Rattle.registry_answer.proofs.AnswerLaws.{or-passes, or-refuses, first-last}
 use Rattle.registry_transition.specs.Transitions.{transition}

@@ -9,8 +9,8 @@ use Rattle.registry_state.specs.States.{Registry, view_registry, well_registry}
 use Rattle.registry_state_credential.specs.CredentialStates.{well_credential}
 use Rattle.registry_state.specs.declared.RegistryState.{RegistryState}
 use Rattle.registry_state_credential.specs.declared.CredentialState.{CredentialState}
-use Rattle.registry_wire.specs.Attempts.{Message, Decoded, decode_of}
-use Rattle.registry_wire.specs.Attempts.Decoded.{malformed, decoded}
+use Rattle.registry_backer.specs.Attempts.{Message, Decoded, decode_of}
+use Rattle.registry_backer.specs.Attempts.Decoded.{malformed, decoded}
 use Rattle.registry_error.specs.declared.RegistryRejection.TheVariants.{Malformed, NotCredentialTransition, InconsistentRegistry, SimpleEventOnBackerRegistry, BackedEventOnBackerlessRegistry}
 use Rattle.registry_error.specs.declared.Answer.{Answer}
 use Rattle.registry_error.specs.declared.Answer.TheVariants.{Rejected}

@@ -8,7 +8,7 @@ use Rattle.events_seal.specs.declared.Seal.{Seal}
 use Rattle.registry_state.specs.States.{Registry}
 use Rattle.registry_state_credential.specs.declared.CredentialState.{CredentialState}
 use Rattle.registry_signatures.specs.SignatureSections.{signatures_in}
-use Rattle.registry_wire.specs.Attempts.{Message}
+use Rattle.registry_backer.specs.Attempts.{Message}
 use Rattle.registry_error.specs.declared.RegistryRejection.TheVariants.{Malformed, InconsistentRegistry}
 use Rattle.registry_error.specs.declared.Answer.{Answer}
 use Rattle.registry_error.specs.declared.Answer.TheVariants.{Accepted}

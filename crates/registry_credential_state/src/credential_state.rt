@@ -4,7 +4,7 @@ ghost use Rattle.cesr.specs.Primitives.{said_at, eq_said};
 ghost use Rattle.cesr.specs.declared.BasicPrefix.{BasicPrefix};
 ghost use Rattle.events.specs.Members.{view};
 ghost use Rattle.registry_management.specs.Managements.{view_management};
-ghost use Rattle.registry_wire.specs.Attempts.{view_attempt};
+ghost use Rattle.registry_backer.specs.Attempts.{view_attempt};
 ghost use Rattle.registry_authentication.specs.Issuers.{Anchored};
 ghost use Rattle.registry_issue.specs.IssueFolds.{view_outcome};
 ghost use Rattle.registry_credential_state.specs.CredentialFolds.{ingest_if, ingest_of};
@@ -19,6 +19,7 @@ use events_tel::Kind;
 use events_toad::Toad;
 use registry_answer::answer::accepts;
 use registry_authentication::issuer::{authenticate_issuer, message_anchored};
+use registry_backer::Attempt;
 use registry_backer::backer::{authenticate_backer, names_registry};
 use registry_backing::backing::own_of;
 use registry_error::{Answer, RegistryRejection};
@@ -27,7 +28,6 @@ use registry_management::{Management, management_of};
 use registry_state::RegistryState;
 use registry_state_credential::CredentialState;
 use registry_transition::transition::transition;
-use registry_wire::Attempt;
 
 // A rev's checks behind its kind. Each that refuses is returned, since an answer is copied wherever it is joined to another.
 fn rev_answer(g: Management, a: Attempt, s: &[u8]) -> Answer

@@ -1,1 +1,2 @@
+pub use Rattle.cesr_sn.specs.Numbers
 pub mod Dispositions

@@ -4,7 +4,7 @@
 ghost use Rattle.std.specs.Prelude.{◌≡◌};
 ghost use Rattle.registry_disposition.specs.Dispositions.{out_of_order, letter_of};
 
-use cesr_sn::Sn;
+pub use cesr_sn::Sn;
 
 // The evidence whose arrival makes an attempt acceptable.
 #[derive(Clone, Copy)]

@@ -2,7 +2,7 @@
 --     terminal-otherwise   every other refusal is terminal
 use Prim.Native.Nat.{ℕ}
 use mathlib.Core.Path.{◌≡◌, refl}
-use Rattle.cesr_sn.specs.declared.Sn.{Sn}
+use Rattle.registry_disposition.specs.declared.Sn.{Sn}
 use Rattle.registry_disposition.specs.declared.Disposition.TheVariants.{Terminal}
 use Rattle.registry_error.specs.declared.RegistryRejection.{RegistryRejection}
 use Rattle.registry_error.specs.declared.RegistryRejection.TheVariants as R

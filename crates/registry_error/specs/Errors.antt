@@ -1,6 +1,6 @@
 -- The refusals: their numbers, dispositions and details (docs/RULES.md, "Refusals").
 use Rattle.std.specs.Prelude.{ℕ, List, [], ◌∷◌}
-use Rattle.cesr_sn.specs.Numbers.{value}
+use Rattle.registry_disposition.specs.Numbers.{value}
 use Rattle.events.specs.Members.{rule_of}
 use Rattle.registry_error.specs.declared.RegistryRejection.{RegistryRejection}
 use Rattle.registry_error.specs.declared.RegistryRejection.TheVariants as R

@@ -3,8 +3,9 @@
 
 pub mod error;
 
-use cesr_sn::Sn;
+pub use events::Membership;
 use events::Rule;
+use registry_disposition::Sn;
 
 // Each refusal of an attempt, with its details.
 #[derive(Clone, Copy)]

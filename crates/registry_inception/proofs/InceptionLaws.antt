@@ -19,14 +19,14 @@ use Rattle.events_tel.specs.declared.Kind.{Kind}
 use Rattle.events_tel.specs.declared.Kind.TheVariants.{Vcp, Vrt, Iss, Rev, Bis, Brv}
 use Rattle.events_tel.specs.declared.TelEvent.{TelEvent}
 use Rattle.codec.specs.Layout.{all, good_event}
-use Rattle.registry_state.specs.States.{Registry, no_registry}
+use Rattle.registry_authentication.specs.States.{Registry, no_registry}
 use Rattle.registry_source.specs.Sources.{good_source}
-use Rattle.registry_wire.specs.Attempts.{Message, Decoded, good_anchors, good_evidence, good_message, view_attempt, view_decoded, decode_of}
-use Rattle.registry_wire.specs.Attempts.Decoded.{malformed, decoded}
-use Rattle.registry_wire.proofs.CodesAttempt.{decodes}
+use Rattle.registry_authentication.specs.Attempts.{Message, Decoded, good_anchors, good_evidence, good_message, view_attempt, view_decoded, decode_of}
+use Rattle.registry_authentication.specs.Attempts.Decoded.{malformed, decoded}
+use Rattle.registry_authentication.proofs.CodesAttempt.{decodes}
 use Rattle.registry_signatures.specs.SignatureSections.{good_signature}
-use Rattle.registry_wire.specs.declared.Attempt.{Attempt}
-use Rattle.registry_wire.specs.declared.DecodedAttempt.{DecodedAttempt}
+use Rattle.registry_authentication.specs.declared.Attempt.{Attempt}
+use Rattle.registry_authentication.specs.declared.DecodedAttempt.{DecodedAttempt}
 use Rattle.registry_answer.specs.Answers.{accepts, accept_if, or_else}
 use Rattle.registry_error.specs.declared.Answer.{Answer}
 use Rattle.registry_error.specs.declared.Answer.TheVariants.{Rejected}

@@ -20,10 +20,10 @@ use Rattle.events_tel.specs.TelEvents.{sn_zero, members_in}
 use Rattle.events_tel.specs.declared.Configs.{Configs}
 use Rattle.events_tel.specs.declared.Listed.{Listed}
 use Rattle.events_toad.specs.declared.Toad.{Toad}
-use Rattle.registry_wire.specs.Attempts.{anchors_in, sources_in, evidence_of, evidence_in, view_attempt}
-use Rattle.registry_wire.specs.declared.Attempt.{Attempt}
+use Rattle.registry_authentication.specs.Attempts.{anchors_in, sources_in, evidence_of, evidence_in, view_attempt}
+use Rattle.registry_authentication.specs.declared.Attempt.{Attempt}
 use Rattle.registry_signatures.specs.SignatureSections.{signatures_in}
-use Rattle.registry_state.specs.States.{read_registry}
+use Rattle.registry_authentication.specs.States.{read_registry}
 use Rattle.registry_error.specs.declared.RegistryRejection.TheVariants.{NoBackersWithBackers, InconsistentIssuer}
 use Rattle.registry_error.specs.declared.Answer.{Answer}
 use Rattle.registry_error.specs.declared.Answer.TheVariants.{Accepted, Rejected}

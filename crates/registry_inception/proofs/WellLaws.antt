@@ -17,8 +17,8 @@ use Rattle.events_tel.specs.TelEvents.Event.{vcp}
 use Rattle.codec_cursor.specs.Readers.{is_identifier}
 use Rattle.codec.specs.Events.{is_config}
 use Rattle.codec.specs.Layout.{all, is_matter, good_said, good_prefix, good_identifier, good_toad, good_configs, good_prefixes, good_event}
-use Rattle.registry_state.specs.States.{Registry, view_registry, is_backer, well_registry}
-use Rattle.registry_state.specs.declared.RegistryState.{RegistryState}
+use Rattle.registry_authentication.specs.States.{Registry, view_registry, is_backer, well_registry}
+use Rattle.registry_authentication.specs.declared.RegistryState.{RegistryState}
 use Rattle.registry_inception.specs.InceptionFolds.{incepted}
 
 -- the letters and config bytes of a registry

@@ -9,9 +9,9 @@ use Rattle.events.specs.Members.{check_members}
 use Rattle.events_tel.specs.TelEvents.{Event, sn_zero, members_in}
 use Rattle.events_tel.specs.TelEvents.Event.{vcp, vrt, iss, rev, bis, brv}
 use Rattle.events_toad.specs.Toads.{exact_ok}
-use Rattle.registry_state.specs.States.{Registry, view_registry, no_registry}
-use Rattle.registry_wire.specs.Attempts.{Message, Decoded, decode_of}
-use Rattle.registry_wire.specs.Attempts.Decoded.{malformed, decoded}
+use Rattle.registry_authentication.specs.States.{Registry, view_registry, no_registry}
+use Rattle.registry_authentication.specs.Attempts.{Message, Decoded, decode_of}
+use Rattle.registry_authentication.specs.Attempts.Decoded.{malformed, decoded}
 use Rattle.registry_error.specs.declared.RegistryRejection.TheVariants.{Malformed, NotRegistryInception, NoBackersWithBackers, InconsistentIssuer, BackerThreshold}
 use Rattle.registry_error.specs.declared.Answer.{Answer}
 use Rattle.registry_error.specs.declared.Answer.TheVariants.{Rejected}

@@ -5,8 +5,8 @@ pub mod registry;
 
 use events_tel::{Configs, Listed};
 use events_toad::Toad;
+use registry_authentication::RegistryState;
 use registry_error::Answer;
-use registry_state::RegistryState;
 
 // An answer, and the state behind it: the next one, or after a refusal the one that was handed in. Where none is handed in it is blank.
 #[derive(Clone, Copy)]

@@ -3,8 +3,8 @@ ghost use Rattle.std.specs.Prelude.{◌≤◌, ◌≡◌, true, []};
 ghost use Rattle.cesr.specs.Primitives.{read_matter, said_at};
 ghost use Rattle.events_tel.specs.TelEvents.{members_in};
 ghost use Rattle.events_tel.specs.Configs.{view_configs};
-ghost use Rattle.registry_state.specs.States.{view_registry, well_registry};
-ghost use Rattle.registry_wire.specs.Attempts.{view_attempt};
+ghost use Rattle.registry_authentication.specs.States.{view_registry, well_registry};
+ghost use Rattle.registry_authentication.specs.Attempts.{view_attempt};
 ghost use Rattle.registry_error.specs.declared.RegistryRejection.TheVariants.{Malformed};
 ghost use Rattle.registry_answer.specs.Answers.{accepts, accept_if, or_else, first_of};
 ghost use Rattle.registry_authentication.specs.Issuers.{Anchored};
@@ -18,11 +18,10 @@ use events_tel::{Configs, Kind, Listed};
 use events_toad::Toad;
 use registry_answer::answer::{accept_if, accepts, backer_set};
 use registry_authentication::issuer::{issuer_kind, message_anchored};
+use registry_authentication::{Attempt, RegistryState};
 use registry_backing::backing::enough_receipts;
 use registry_error::{Answer, RegistryRejection};
 use registry_rotation::deltas::check_members;
-use registry_state::RegistryState;
-use registry_wire::Attempt;
 
 // Whether so many backers can meet the toad.
 pub fn threshold_fits(toad: Toad, backers: usize) -> Answer

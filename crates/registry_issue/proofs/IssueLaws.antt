@@ -11,12 +11,12 @@ use mathlib.Core.Bool.{Bool, true, false, cond, ◌&&◌, false≢true}
 use lib.Dec.{eqb}
 use Rattle.laws.proofs.Tests.{and_left, and_right}
 use Rattle.registry_signatures.specs.SignatureSections.{signatures_in}
-use Rattle.registry_state.specs.States.{Registry, read_registry}
+use Rattle.registry_management.specs.States.{Registry, read_registry}
 use Rattle.registry_state_credential.specs.CredentialStates.{no_credential}
 use Rattle.registry_state_credential.specs.declared.CredentialState.{CredentialState}
-use Rattle.registry_wire.specs.Attempts.{Message, view_attempt, view_decoded, decode_of}
-use Rattle.registry_wire.specs.declared.Attempt.{Attempt}
-use Rattle.registry_wire.specs.declared.DecodedAttempt.{DecodedAttempt}
+use Rattle.registry_backer.specs.Attempts.{Message, view_attempt, view_decoded, decode_of}
+use Rattle.registry_backer.specs.declared.Attempt.{Attempt}
+use Rattle.registry_backer.specs.declared.DecodedAttempt.{DecodedAttempt}
 use Rattle.registry_authentication.proofs.AnchorUse.{judged-decoded, judged-malformed}
 use Rattle.registry_answer.specs.Answers.{accepts, accept_if, first_of}
 use Rattle.registry_answer.proofs.AnswerLaws.{or-first, passed, or-passes, or-refuses, first-refused, first-accepted, first-last}

@@ -6,12 +6,12 @@ use Rattle.events_tel.specs.TelEvents.{Event, sn_zero}
 use Rattle.events_tel.specs.TelEvents.Event.{vcp, vrt, iss, rev, bis, brv}
 use Rattle.events_seal.specs.declared.Seal.{Seal}
 use Rattle.registry_signatures.specs.SignatureSections.{signatures_in}
-use Rattle.registry_state.specs.States.{Registry, view_registry, well_registry}
+use Rattle.registry_management.specs.States.{Registry, view_registry, well_registry}
 use Rattle.registry_state_credential.specs.CredentialStates.{no_credential}
-use Rattle.registry_state.specs.declared.RegistryState.{RegistryState}
+use Rattle.registry_management.specs.declared.RegistryState.{RegistryState}
 use Rattle.registry_state_credential.specs.declared.CredentialState.{CredentialState}
-use Rattle.registry_wire.specs.Attempts.{Message, Decoded, decode_of}
-use Rattle.registry_wire.specs.Attempts.Decoded.{malformed, decoded}
+use Rattle.registry_backer.specs.Attempts.{Message, Decoded, decode_of}
+use Rattle.registry_backer.specs.Attempts.Decoded.{malformed, decoded}
 use Rattle.registry_error.specs.declared.RegistryRejection.TheVariants.{Malformed, NotCredentialInception, InconsistentRegistry, SimpleEventOnBackerRegistry, BackedEventOnBackerlessRegistry}
 use Rattle.registry_error.specs.declared.Answer.{Answer}
 use Rattle.registry_error.specs.declared.Answer.TheVariants.{Rejected}

@@ -3,8 +3,8 @@ use Rattle.std.specs.Prelude.{Bool}
 use Rattle.cesr.specs.declared.Said.{Said}
 use Rattle.events_tel.specs.TelEvents.{Event}
 use Rattle.events_seal.specs.declared.Seal.{Seal}
-use Rattle.registry_state.specs.States.{Registry}
-use Rattle.registry_wire.specs.Attempts.{Message}
+use Rattle.registry_management.specs.States.{Registry}
+use Rattle.registry_backer.specs.Attempts.{Message}
 use Rattle.registry_error.specs.declared.RegistryRejection.TheVariants.{Malformed}
 use Rattle.registry_error.specs.declared.Answer.{Answer}
 use Rattle.registry_answer.specs.Answers.{accept_if, or_else}

@@ -3,7 +3,7 @@ ghost use Rattle.std.specs.Prelude.{◌≡◌, true, List};
 ghost use Rattle.cesr.specs.Primitives.{said_at};
 ghost use Rattle.cesr.specs.declared.BasicPrefix.{BasicPrefix};
 ghost use Rattle.registry_management.specs.Managements.{view_management};
-ghost use Rattle.registry_wire.specs.Attempts.{view_attempt};
+ghost use Rattle.registry_backer.specs.Attempts.{view_attempt};
 ghost use Rattle.registry_error.specs.declared.Answer.TheVariants.{Rejected};
 ghost use Rattle.registry_authentication.specs.Issuers.{Anchored};
 ghost use Rattle.registry_issue.specs.IssueFolds.{iss_answer, issue_at, incept_if, incept_of, view_outcome};
@@ -16,13 +16,12 @@ use events_seal::Seal;
 use events_tel::Kind;
 use registry_answer::answer::accepts;
 use registry_authentication::issuer::{authenticate_issuer, message_anchored};
+use registry_backer::Attempt;
 use registry_backer::backer::authenticate_backer;
 use registry_backing::backing::own_of;
 use registry_error::{Answer, RegistryRejection};
-use registry_management::{Management, management_of};
-use registry_state::RegistryState;
+use registry_management::{Management, RegistryState, management_of};
 use registry_state_credential::CredentialState;
-use registry_wire::Attempt;
 
 // An iss's checks behind its kind. Each that refuses is returned, since an answer is copied wherever it is joined to another.
 fn iss_answer(g: Management, a: Attempt, s: &[u8]) -> Answer

@@ -10,7 +10,7 @@ use Rattle.events.specs.declared.Membership.{Membership}
 use Rattle.events.specs.declared.Membership.TheVariants.{Sound, Broken}
 use Rattle.registry_answer.specs.Answers.{accepts, backer_set, first_of}
 use Rattle.registry_error.specs.declared.Answer.{Answer}
-use Rattle.registry_verification.specs.Starred.{All}
+use Rattle.registry.specs.Starred.{All}
 use Rattle.registry_answer.proofs.AnswerLaws.{or-first, or-second}
 
 pub all-accept : (l : List Answer) → accepts (first_of l) ≡ true → All (λ x. accepts x ≡ true) l

@@ -16,13 +16,13 @@ use Rattle.events_toad.specs.Toads.{exact_ok}
 use Rattle.events_tel.specs.TelEvents.{Event}
 use Rattle.events_tel.specs.TelEvents.Event.{vcp, vrt, iss, rev, bis, brv}
 use Rattle.registry_state.specs.States.{no_registry}
-use Rattle.registry_wire.specs.Attempts.{Message, Decoded, decode_of}
-use Rattle.registry_wire.specs.Attempts.Decoded.{malformed, decoded}
+use Rattle.registry_credential_state.specs.Attempts.{Message, Decoded, decode_of}
+use Rattle.registry_credential_state.specs.Attempts.Decoded.{malformed, decoded}
 use Rattle.registry_answer.specs.Answers.{accepts}
 use Rattle.registry_error.specs.declared.Answer.TheVariants.{Rejected}
 use Rattle.registry_error.specs.declared.RegistryRejection.TheVariants.{Malformed, NoBackersWithBackers, BackerThreshold}
-use Rattle.registry_authentication.specs.Issuers.{issuer_kind}
-use Rattle.registry_inception.specs.InceptionFolds.{Outcome, threshold_fits, vcp_answer, incept_event, incept_answer, incepted, incept_message, incept_decoded, incept_of}
+use Rattle.registry_credential_state.specs.Issuers.{issuer_kind}
+use Rattle.registry.specs.InceptionFolds.{Outcome, threshold_fits, vcp_answer, incept_event, incept_answer, incepted, incept_message, incept_decoded, incept_of}
 use Rattle.registry_answer.proofs.AnswerLaws.{or-second, passed}
 use Rattle.registry_laws.specs.ReadingRules.{sound_registry}
 use Rattle.registry_laws.proofs.Chains.{all-accept, set-sound}

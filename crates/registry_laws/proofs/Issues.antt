@@ -13,12 +13,12 @@ use Rattle.events_tel.specs.TelEvents.Event.{vcp, vrt, iss, rev, bis, brv}
 use Rattle.registry_state.specs.States.{Registry, view_registry, well_registry}
 use Rattle.registry_state_credential.specs.CredentialStates.{no_credential}
 use Rattle.registry_state.specs.declared.RegistryState.{RegistryState}
-use Rattle.registry_wire.specs.Attempts.{Message, Decoded, decode_of}
-use Rattle.registry_wire.specs.Attempts.Decoded.{malformed, decoded}
+use Rattle.registry_credential_state.specs.Attempts.{Message, Decoded, decode_of}
+use Rattle.registry_credential_state.specs.Attempts.Decoded.{malformed, decoded}
 use Rattle.registry_answer.specs.Answers.{accepts, accept_if}
 use Rattle.registry_error.specs.declared.Answer.TheVariants.{Rejected}
 use Rattle.registry_error.specs.declared.RegistryRejection.TheVariants.{Malformed, InconsistentRegistry}
-use Rattle.registry_issue.specs.IssueFolds.{Outcome, iss_answer, bis_answer, incept_event, issued, incept_message, incept_decoded, incept_of}
+use Rattle.registry_credential_state.specs.IssueFolds.{Outcome, iss_answer, bis_answer, incept_event, issued, incept_message, incept_decoded, incept_of}
 use Rattle.registry_answer.proofs.AnswerLaws.{passed}
 use Rattle.registry_laws.specs.Pairs.{Pair, pair_of, pair_decoded, pair_of_bytes, key_of}
 use Rattle.registry_laws.proofs.Chains.{all-accept}

@@ -1,3 +1,4 @@
+pub use Rattle.registry_credential_state.proofs.StickyAttempt
 pub mod Chains
 pub mod Inceptions
 pub mod Issues

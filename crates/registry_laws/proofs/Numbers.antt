@@ -15,7 +15,7 @@ use Rattle.codec.specs.Layout.{good_sn}
 use Rattle.registry_answer.specs.Answers.{accepts, accept_if}
 use Rattle.registry_error.specs.declared.Answer.TheVariants.{Rejected}
 use Rattle.registry_error.specs.declared.RegistryRejection.TheVariants.{SequenceNumberOverflow, OutOfOrder}
-use Rattle.registry_verification.specs.Sequence.{sn_behind, next_sn}
+use Rattle.registry.specs.Sequence.{sn_behind, next_sn}
 use Rattle.registry_answer.proofs.AnswerLaws.{passed}
 
 good-below : (n : Sn) → good_sn n ≡ true → value n < 2 ^ 128

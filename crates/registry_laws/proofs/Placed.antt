@@ -21,7 +21,7 @@ use Rattle.registry_error.specs.declared.Answer.{Answer}
 use Rattle.registry_error.specs.declared.Answer.TheVariants.{Accepted, Rejected}
 use Rattle.registry_error.specs.declared.RegistryRejection.{RegistryRejection}
 use Rattle.registry_error.specs.declared.RegistryRejection.TheVariants.{BackerSet}
-use Rattle.registry_verification.specs.Starred.{All}
+use Rattle.registry.specs.Starred.{All}
 
 -- where an answer is refusal 24, the element at the position breaks the rule
 abbrev pub Placed : Lists → Answer → Type 0

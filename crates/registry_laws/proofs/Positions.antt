@@ -24,27 +24,27 @@ use Rattle.registry_state.specs.States.{Registry, view_registry, well_registry}
 use Rattle.registry_state_credential.specs.CredentialStates.{well_credential, no_credential}
 use Rattle.registry_state.specs.declared.RegistryState.{RegistryState}
 use Rattle.registry_state_credential.specs.declared.CredentialState.{CredentialState}
-use Rattle.registry_wire.specs.Attempts.{Message, Anchor, Evidence, decode_of}
+use Rattle.registry_credential_state.specs.Attempts.{Message, Anchor, Evidence, decode_of}
 use Rattle.registry_signatures.specs.SignatureSections.{Signature}
-use Rattle.registry_wire.specs.Attempts.Decoded.{decoded}
-use Rattle.registry_wire.specs.Attempts.Evidence.{missing, issuer, backer, backer_at}
+use Rattle.registry_credential_state.specs.Attempts.Decoded.{decoded}
+use Rattle.registry_credential_state.specs.Attempts.Evidence.{missing, issuer, backer, backer_at}
 use Rattle.registry_source.specs.declared.Source.{Source}
 use Rattle.registry_answer.specs.Answers.{accept_if, backer_set}
 use Rattle.registry_error.specs.declared.Answer.{Answer}
 use Rattle.registry_error.specs.declared.Answer.TheVariants.{Rejected}
 use Rattle.registry_error.specs.declared.RegistryRejection.TheVariants.{Malformed, SequenceNumberOverflow, OutOfOrder, BackerSet}
-use Rattle.registry_authentication.specs.Issuers.{issuer_kind, anchored, authenticate_issuer}
-use Rattle.registry_backing.specs.Backings.{enough_receipts, backed_by}
-use Rattle.registry_backer.specs.Backers.{resolved_by, resolved, authority, authenticate_backer}
-use Rattle.registry_inception.specs.InceptionFolds as inceptions
+use Rattle.registry_credential_state.specs.Issuers.{issuer_kind, anchored, authenticate_issuer}
+use Rattle.registry_credential_state.specs.Backings.{enough_receipts, backed_by}
+use Rattle.registry_credential_state.specs.Backers.{resolved_by, resolved, authority, authenticate_backer}
+use Rattle.registry.specs.InceptionFolds as inceptions
 use Rattle.registry.specs.RegistryFolds as registries
-use Rattle.registry_verification.specs.Sequence.{sn_behind, next_sn}
-use Rattle.registry_inception.specs.InceptionFolds.{threshold_fits, vcp_answer}
+use Rattle.registry.specs.Sequence.{sn_behind, next_sn}
+use Rattle.registry.specs.InceptionFolds.{threshold_fits, vcp_answer}
 use Rattle.registry.specs.RegistryFolds.{vrt_backers, vrt_answer}
-use Rattle.registry_issue.specs.IssueFolds as issues
+use Rattle.registry_credential_state.specs.IssueFolds as issues
 use Rattle.registry_credential_state.specs.CredentialFolds as credentials
-use Rattle.registry_issue.specs.IssueFolds.{iss_answer, bis_answer}
-use Rattle.registry_transition.specs.Transitions.{transition}
+use Rattle.registry_credential_state.specs.IssueFolds.{iss_answer, bis_answer}
+use Rattle.registry_credential_state.specs.Transitions.{transition}
 use Rattle.registry_credential_state.specs.CredentialFolds.{rev_answer, brv_answer}
 use Rattle.registry_laws.specs.Positions.{alone, lists_of}
 use Rattle.registry_laws.proofs.Placed.{Placed, other-placed, if-placed, or-placed, cond-placed, all_placed, check-placed, else-placed}

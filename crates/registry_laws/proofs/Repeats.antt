@@ -16,7 +16,7 @@ use Rattle.events.specs.Members.{no_prefix, at, has, breaks, check, or_else, che
 use Rattle.events.specs.declared.Rule.TheVariants.{DuplicateCut, DuplicateAddition, CutAddOverlap, RemovalNotCurrent, AdditionAlreadyPresent}
 use Rattle.events.specs.declared.Membership.TheVariants.{Sound}
 use Rattle.events.proofs.MemberLaws.{has-found, has-none, sound-all, sound-apart, distinct-sound}
-use Rattle.registry_verification.specs.Starred.{All, Different}
+use Rattle.registry.specs.Starred.{All, Different}
 use Rattle.registry_members.specs.Updated.{survivors, updated_members}
 use Rattle.registry_laws.proofs.Chains.{else-first, else-second}
 

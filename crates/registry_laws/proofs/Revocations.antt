@@ -29,19 +29,19 @@ use Rattle.registry_state.specs.States.{Registry, view_registry, well_registry}
 use Rattle.registry_state_credential.specs.CredentialStates.{well_credential}
 use Rattle.registry_state.specs.declared.RegistryState.{RegistryState}
 use Rattle.registry_state_credential.specs.declared.CredentialState.{CredentialState}
-use Rattle.registry_wire.specs.Attempts.{Message, Decoded, decode_of}
-use Rattle.registry_wire.specs.Attempts.Decoded.{malformed, decoded}
-use Rattle.registry_wire.proofs.CodesAttempt.{decodes}
+use Rattle.registry_credential_state.specs.Attempts.{Message, Decoded, decode_of}
+use Rattle.registry_credential_state.specs.Attempts.Decoded.{malformed, decoded}
+use Rattle.registry_credential_state.proofs.CodesAttempt.{decodes}
 use Rattle.registry_answer.specs.Answers.{accepts, accept_if}
 use Rattle.registry_error.specs.declared.Answer.TheVariants.{Rejected}
 use Rattle.registry_error.specs.declared.RegistryRejection.TheVariants.{Malformed, InconsistentRegistry, InconsistentCredential}
-use Rattle.registry_backer.specs.Backers.{names_registry}
-use Rattle.registry_issue.specs.IssueFolds.{Outcome}
-use Rattle.registry_transition.specs.Transitions.{transition}
+use Rattle.registry_credential_state.specs.Backers.{names_registry}
+use Rattle.registry_credential_state.specs.IssueFolds.{Outcome}
+use Rattle.registry_credential_state.specs.Transitions.{transition}
 use Rattle.registry_credential_state.specs.CredentialFolds.{rev_answer, brv_answer, ingest_event, ingest_answer, revoked, ingest_message, ingest_decoded, ingest_of}
-use Rattle.registry_verification.specs.Sequence.{next_sn}
+use Rattle.registry.specs.Sequence.{next_sn}
 use Rattle.registry_answer.proofs.AnswerLaws.{or-first, or-second, passed}
-use Rattle.registry_inception.proofs.InceptionLaws.{good-event}
+use Rattle.registry.proofs.InceptionLaws.{good-event}
 use Rattle.registry.proofs.WellLaws.{well-view}
 use Rattle.registry_laws.specs.Pairs.{Pair, pair_under, pair_in, pair_of, pair_decoded, pair_of_bytes, key_of}
 use Rattle.registry_laws.proofs.Chains.{all-accept}

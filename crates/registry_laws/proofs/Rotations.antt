@@ -22,13 +22,13 @@ use Rattle.events_tel.specs.TelEvents.Event.{vcp, vrt, iss, rev, bis, brv}
 use Rattle.codec.specs.Layout.{good_sn}
 use Rattle.registry_state.specs.States.{Registry, view_registry, well_registry}
 use Rattle.registry_state.specs.declared.RegistryState.{RegistryState}
-use Rattle.registry_wire.specs.Attempts.{Message, Decoded, decode_of}
-use Rattle.registry_wire.specs.Attempts.Decoded.{malformed, decoded}
+use Rattle.registry_credential_state.specs.Attempts.{Message, Decoded, decode_of}
+use Rattle.registry_credential_state.specs.Attempts.Decoded.{malformed, decoded}
 use Rattle.registry_answer.specs.Answers.{accepts, backer_set}
 use Rattle.registry_error.specs.declared.Answer.TheVariants.{Rejected}
 use Rattle.registry_error.specs.declared.RegistryRejection.TheVariants.{Malformed, RotationOnBackerlessRegistry, BackerThreshold}
 use Rattle.registry_members.specs.Updated.{updated_members}
-use Rattle.registry_inception.specs.InceptionFolds.{Outcome, threshold_fits}
+use Rattle.registry.specs.InceptionFolds.{Outcome, threshold_fits}
 use Rattle.registry.specs.RegistryFolds.{vrt_backers, vrt_answer, ingest_event, rotated, ingest_message, ingest_decoded, ingest_of}
 use Rattle.registry_answer.proofs.AnswerLaws.{passed}
 use Rattle.registry_laws.specs.ReadingRules.{sound_registry}

@@ -17,17 +17,17 @@ use Rattle.registry_state.specs.States.{Registry, view_registry, well_registry}
 use Rattle.registry_state_credential.specs.CredentialStates.{well_credential, no_credential}
 use Rattle.registry_state.specs.declared.RegistryState.{RegistryState}
 use Rattle.registry_state_credential.specs.declared.CredentialState.{CredentialState}
-use Rattle.registry_wire.specs.Attempts.{Message, Evidence, Decoded, decode_of}
+use Rattle.registry_credential_state.specs.Attempts.{Message, Evidence, Decoded, decode_of}
 use Rattle.registry_signatures.specs.SignatureSections.{Signature}
-use Rattle.registry_wire.specs.Attempts.Decoded.{malformed, decoded}
-use Rattle.registry_wire.specs.Attempts.Evidence.{missing, issuer, backer, backer_at}
+use Rattle.registry_credential_state.specs.Attempts.Decoded.{malformed, decoded}
+use Rattle.registry_credential_state.specs.Attempts.Evidence.{missing, issuer, backer, backer_at}
 use Rattle.registry_answer.specs.Answers.{accept_if, or_else, first_of}
 use Rattle.registry_error.specs.declared.Answer.{Answer}
 use Rattle.registry_error.specs.declared.Answer.TheVariants.{Accepted, Rejected}
 use Rattle.registry_error.specs.declared.RegistryRejection.TheVariants.{Malformed, InconsistentRegistry}
-use Rattle.registry_backing.specs.Backings.{backed_by}
-use Rattle.registry_backer.specs.Backers.{same_registry, resolved_by, authority, authenticate_backer}
-use Rattle.registry_issue.specs.IssueFolds.{Outcome, iss_answer, bis_answer, incept_event, incept_message, incept_decoded, incept_of}
+use Rattle.registry_credential_state.specs.Backings.{backed_by}
+use Rattle.registry_credential_state.specs.Backers.{same_registry, resolved_by, authority, authenticate_backer}
+use Rattle.registry_credential_state.specs.IssueFolds.{Outcome, iss_answer, bis_answer, incept_event, incept_message, incept_decoded, incept_of}
 use Rattle.registry_credential_state.specs.CredentialFolds.{rev_answer, brv_answer, ingest_event, ingest_answer, ingest_message, ingest_decoded, ingest_of}
 use Rattle.registry_laws.specs.States.{OneRegistry}
 

@@ -1,3 +1,10 @@
+pub use Rattle.registry_credential_state.specs.Attempts
+pub use Rattle.registry_credential_state.specs.CredentialFolds
+pub use Rattle.registry_credential_state.specs.IssueFolds
+pub use Rattle.registry_credential_state.specs.Issuers
+pub use Rattle.registry.specs.InceptionFolds
+pub use Rattle.registry.specs.RegistryFolds
+pub use Rattle.registry.specs.Starred
 pub mod Pairs
 pub mod Positions
 pub mod ReadingRules

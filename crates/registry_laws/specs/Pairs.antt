@@ -8,8 +8,8 @@ use Rattle.events_seal.specs.declared.Identifier.TheVariants.{Basic, SelfAddress
 use Rattle.events_seal.specs.declared.Seal.{Seal}
 use Rattle.events_seal.specs.declared.Seal.TheVariants.{Digest, Root, Source, Event as EventSeal, Last, Back, Kind, Opaque}
 use Rattle.registry_state_credential.specs.declared.CredentialState.{CredentialState}
-use Rattle.registry_wire.specs.Attempts.{Decoded, decode_of}
-use Rattle.registry_wire.specs.Attempts.Decoded.{malformed, decoded}
+use Rattle.registry_credential_state.specs.Attempts.{Decoded, decode_of}
+use Rattle.registry_credential_state.specs.Attempts.Decoded.{malformed, decoded}
 
 -- a registry's said together with a credential's
 pub record Pair : Type 0 where

@@ -1,1 +1,2 @@
+pub use Rattle.registry_state.specs.States
 pub mod Managements

@@ -12,7 +12,7 @@ use codec::section::{pass_prefixes, read_configs};
 use codec_cursor::Cursor;
 use events_tel::{Configs, Listed};
 use events_toad::Toad;
-use registry_state::RegistryState;
+pub use registry_state::RegistryState;
 
 #[derive(Clone, Copy)]
 pub struct Management {

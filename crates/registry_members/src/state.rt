@@ -1,14 +1,14 @@
 // The members after a rotation (docs/RULES.md, "Lists of backers").
 ghost use Rattle.std.specs.Prelude.{◌≡◌, cond, ◌≤◌, length, leb};
 ghost use Rattle.events.specs.Members.{view};
-ghost use Rattle.events_tel.specs.TelEvents.{members_in};
+ghost use Rattle.codec.specs.TelEvents.{members_in};
 ghost use Rattle.registry_members.specs.Updated.{updated_members};
 
 use crate::Updated;
 use cesr::{BasicPrefix, Matter};
+use codec::Listed;
 use codec::section::at_most_16;
 use events::Members;
-use events_tel::Listed;
 use registry_rotation::deltas::found_in;
 
 // Survivors in their order, then additions in theirs. Where there are more than 16 the current list comes back.

@@ -19,11 +19,11 @@ use Rattle.events.specs.declared.Rule.{Rule}
 use Rattle.events.specs.declared.Rule.TheVariants.{DuplicateBacker, DuplicateCut, DuplicateAddition, CutAddOverlap, RemovalNotCurrent, AdditionAlreadyPresent}
 use Rattle.events.specs.Members.{at, no_prefix, has, breaks, is_repeat, is_missing}
 use Rattle.events.proofs.MemberLaws.{has-append}
-use Rattle.events_tel.specs.declared.Listed.{Listed}
-use Rattle.events_tel.specs.TelEvents.{members_in}
-use Rattle.codec_cursor.specs.declared.Cursor.{Cursor}
+use Rattle.codec.specs.declared.Listed.{Listed}
+use Rattle.codec.specs.TelEvents.{members_in}
+use Rattle.codec.specs.declared.Cursor.{Cursor}
 use Rattle.codec.proofs.Loops.{length-times}
-use Rattle.codec_cursor.specs.Readers.{Read, Reader, read_if, read_prefix, times}
+use Rattle.codec.specs.Readers.{Read, Reader, read_if, read_prefix, times}
 
 module _ {A : Type 0} (p : Reader A) (s : List ℕ) (c : Cursor) where
   -- fewer elements are the first of more

@@ -1,15 +1,14 @@
 // The rules on lists of backers, which stay in the bytes (docs/RULES.md, "Lists of backers").
 ghost use Rattle.std.specs.Prelude.{◌≡◌, true, cond, []};
 ghost use Rattle.events.specs.Members.{has, is_repeat, is_missing, check, check_members, check_deltas, check_current};
-ghost use Rattle.events_tel.specs.TelEvents.{members_in};
-ghost use Rattle.codec_cursor.specs.Readers.{read_prefix, times};
+ghost use Rattle.codec.specs.TelEvents.{members_in};
+ghost use Rattle.codec.specs.Readers.{read_prefix, times};
 
 use cesr::BasicPrefix;
 use codec::section::at_most_16;
-use codec_cursor::Cursor;
+use codec::{Cursor, Listed};
 use events::member_set::{differs, or_else, until};
 use events::{Membership, Rule};
-use events_tel::Listed;
 
 // Whether x is among the n prefixes that stand from a cursor on. Each is compared where it stands.
 pub fn found_in(s: &[u8], start: Cursor, n: usize, x: BasicPrefix) -> bool

@@ -15,7 +15,7 @@ use Rattle.events_seal.specs.declared.Seal.TheVariants.{Digest, Root, Source as 
 use Rattle.events_seal.proofs.Identifiers.{matter-identifier}
 use Rattle.codec_cursor.specs.declared.Cursor.{Cursor}
 use Rattle.codec_cursor.specs.Readers.{advanced, read_byte, read_if, read_identifier, read_number, read_said}
-use Rattle.codec.specs.Events.{seal_of, read_event_seal, read_other_seal, read_seal}
+use Rattle.codec_laws.specs.Events.{seal_of, read_event_seal, read_other_seal, read_seal}
 use Rattle.registry_seals.specs.SealSections.{seals_event}
 
 -- a seal that is no event seal is not the wanted one

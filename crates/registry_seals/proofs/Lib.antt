@@ -1,2 +1,10 @@
+pub use Rattle.codec_laws.proofs.Codes
+pub use Rattle.codec_laws.proofs.CodesEvent
+pub use Rattle.codec_laws.proofs.CodesList
+pub use Rattle.codec_laws.proofs.CodesPlain
+pub use Rattle.codec_laws.proofs.CodesRound
+pub use Rattle.codec_laws.proofs.CodesSeal
+pub use Rattle.codec_laws.proofs.Stands
+pub use Rattle.codec_laws.proofs.Sticky
 pub mod InPlace
 pub mod OnlySeal

@@ -15,8 +15,8 @@ use Rattle.cesr.specs.declared.Matter.{Matter}
 use Rattle.cesr.specs.declared.Said.{Said}
 use Rattle.events_seal.specs.declared.Seal.{Seal}
 use Rattle.codec_cursor.specs.Readers.{placed, starting, stopped, need, counted}
-use Rattle.codec.specs.Events.{read_seal}
-use Rattle.codec.specs.Layout.{joined, section_bytes, all, seal_bytes, good_seal}
+use Rattle.codec_laws.specs.Events.{read_seal}
+use Rattle.codec_laws.specs.Layout.{joined, section_bytes, all, seal_bytes, good_seal}
 use Rattle.codec_laws.proofs.Stands.{stands-first, whole-stands}
 use Rattle.codec_laws.proofs.Codes.{leads, count-complete}
 use Rattle.codec_laws.proofs.CodesSeal.{codes-seal}

@@ -9,7 +9,7 @@ use Rattle.events_seal.specs.Identifiers.{matter_of}
 use Rattle.events_seal.specs.declared.Seal.{Seal}
 use Rattle.events_seal.specs.declared.Seal.TheVariants.{Digest, Root, Source as SourceSeal, Event as EventSeal, Last, Back, Kind, Opaque}
 use Rattle.codec_cursor.specs.Readers.{starting, counted}
-use Rattle.codec.specs.Events.{read_seal}
+use Rattle.codec_laws.specs.Events.{read_seal}
 
 -- of two events in bytes the one that is used: the evidence's where it carries one, else the message's
 unfoldable pub chosen : List ℕ → List ℕ → List ℕ

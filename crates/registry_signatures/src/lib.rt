@@ -3,7 +3,7 @@
 
 pub mod signatures;
 
-use codec_cursor::Cursor;
+use codec::Cursor;
 
 // Elements in the attempt's bytes, one behind the other.
 #[derive(Clone, Copy)]

@@ -3,8 +3,8 @@ ghost use Rattle.std.specs.Prelude.{◌≡◌};
 ghost use Rattle.registry_signatures.specs.SignatureSections.{view_signature, read_signature, passed_signatures};
 
 use crate::{Counted, SignatureRead, SignaturesRead};
+use codec::Cursor;
 use codec::section::count_up_to;
-use codec_cursor::Cursor;
 
 pub fn read_signature(c: Cursor, s: &[u8]) -> SignatureRead
     ensures { view_signature result ≡ read_signature s.now c }

@@ -16,19 +16,19 @@ use Rattle.laws.specs.Number.{Bytes}
 use Rattle.laws.specs.Room.{put}
 use Rattle.laws.proofs.Tests.{and_left, and_right}
 use Rattle.cesr.specs.Primitives.{is_basic, is_said}
-use Rattle.events_tel.specs.Configs.{view_configs}
+use Rattle.codec.specs.Configs.{view_configs}
 use Rattle.events.specs.Members.{view}
-use Rattle.codec_cursor.specs.declared.Cursor.{Cursor}
-use Rattle.codec_cursor.specs.Readers.{Read, placed, is_identifier}
+use Rattle.codec.specs.declared.Cursor.{Cursor}
+use Rattle.codec.specs.Readers.{Read, placed, is_identifier}
 use Rattle.codec.specs.Events.{is_config}
 use Rattle.codec.specs.Layout.{all, is_matter, good_said, good_identifier, good_sn, good_toad, good_configs, good_prefix, good_prefixes}
-use Rattle.codec_laws.proofs.CodesRound.{codes-back, codes-again}
+use Rattle.registry_bytes.proofs.CodesRound.{codes-back, codes-again}
 use Rattle.cesr_sn.specs.declared.Sn.{Sn}
 use Rattle.cesr.specs.declared.Matter.{Matter}
 use Rattle.cesr.specs.declared.Said.{Said}
 use Rattle.cesr.specs.declared.BasicPrefix.{BasicPrefix}
-use Rattle.codec_laws.proofs.Codes.{Codes, and-true, codes-map, codes-both, codes-quad, codes-sn, codes-said, codes-identifier}
-use Rattle.codec_laws.proofs.CodesSeal.{codes-configs, codes-prefixes}
+use Rattle.registry_bytes.proofs.Codes.{Codes, and-true, codes-map, codes-both, codes-quad, codes-sn, codes-said, codes-identifier}
+use Rattle.registry_bytes.proofs.CodesSeal.{codes-configs, codes-prefixes}
 use Rattle.registry_state.specs.States.{Registry, registry_bytes, good_registry, registry_of, read_registry, view_registry, is_backer, well_registry, ranged_registry}
 use Rattle.registry_state.specs.declared.RegistryState.{RegistryState}
 use Rattle.registry_state.proofs.StateLoops.{all_weaker}

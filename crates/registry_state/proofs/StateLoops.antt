@@ -11,7 +11,7 @@ use native.Mathlib.Omega.{arith}
 use lib.ListN.{length, get_or}
 use Rattle.laws.proofs.Tests.{and_left, and_right}
 use Rattle.codec.specs.Layout.{all}
-use Rattle.registry_head.specs.HeadBytes.{head_bytes}
+use Rattle.registry_bytes.specs.HeadBytes.{head_bytes}
 use Rattle.registry_bytes.specs.StateBytes.{rest_bytes, state_bytes}
 use Rattle.registry_bytes.proofs.StateWrites.{length-state}
 use Rattle.registry_state.specs.States.{Registry, registry_bytes}

@@ -1,5 +1,5 @@
 -- A cursor that has stopped stays so where the state of a registry is read.
-use Rattle.codec_laws.proofs.Sticky.{Sticky, sticky-both, sticky-mapped, sticky-said, sticky-identifier, sticky-number, sticky-quad, sticky-configs, sticky-prefixes}
+use Rattle.registry_bytes.proofs.Sticky.{Sticky, sticky-both, sticky-mapped, sticky-said, sticky-identifier, sticky-number, sticky-quad, sticky-configs, sticky-prefixes}
 use Rattle.registry_state.specs.States.{registry_of, read_registry}
 
 pub sticky-registry : Sticky read_registry

@@ -5,9 +5,8 @@ pub mod state;
 
 use cesr::{Matter, Said};
 use cesr_sn::Sn;
-use codec_cursor::Cursor;
+use codec::{Configs, Cursor};
 use events::Members;
-use events_tel::Configs;
 use events_toad::Toad;
 
 #[repr(C)]

@@ -1,7 +1,7 @@
 // The state of a registry. It holds numbers alone, since a host lends it as memory and every pattern of bits has to be a value.
 ghost use Rattle.std.specs.Prelude.{◌≡◌, true, ◌+◌, ◌≤◌, length};
 ghost use Rattle.laws.specs.Room.{room, put};
-ghost use Rattle.events_tel.specs.Configs.{view_configs};
+ghost use Rattle.codec.specs.Configs.{view_configs};
 ghost use Rattle.events.specs.Members.{view};
 ghost use Rattle.codec.specs.Events.{is_config};
 ghost use Rattle.codec.specs.Layout.{all};
@@ -11,9 +11,8 @@ use crate::{RegistryRead, RegistryState};
 use cesr::{Matter, Said};
 use cesr_sn::Sn;
 use codec::section::{pass_prefixes, read_configs, read_prefixes};
-use codec_cursor::Cursor;
+use codec::{Configs, Cursor};
 use events::Members;
-use events_tel::Configs;
 use events_toad::Toad;
 use registry_bytes::writer::{state_size, write_registry};
 

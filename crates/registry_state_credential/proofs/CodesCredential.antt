@@ -17,7 +17,7 @@ use Rattle.cesr.specs.Primitives.{is_said}
 use Rattle.cesr.specs.declared.Said.{Said}
 use Rattle.cesr_sn.specs.declared.Sn.{Sn}
 use Rattle.codec_cursor.specs.Readers.{placed}
-use Rattle.codec.specs.Layout.{is_matter, good_said, good_sn}
+use Rattle.codec_laws.specs.Layout.{is_matter, good_said, good_sn}
 use Rattle.codec_laws.proofs.CodesRound.{codes-back, codes-again}
 use Rattle.codec_laws.proofs.Codes.{Codes, and-true, codes-map, codes-both, codes-sn, codes-said}
 use Rattle.registry_head.specs.HeadBytes.{head_bytes}

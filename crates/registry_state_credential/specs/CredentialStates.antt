@@ -5,7 +5,7 @@ use Rattle.cesr.specs.declared.Said.{Said}
 use Rattle.cesr_sn.specs.Numbers.{sn_bytes}
 use Rattle.cesr_sn.specs.declared.Sn.{Sn}
 use Rattle.codec_cursor.specs.Readers.{Read, Reader, read_number, read_said, mapped, both}
-use Rattle.codec.specs.Layout.{said_bytes, is_matter, good_said, good_sn}
+use Rattle.codec_laws.specs.Layout.{said_bytes, is_matter, good_said, good_sn}
 use Rattle.registry_state_credential.specs.declared.CredentialState.{CredentialState}
 use Rattle.registry_state_credential.specs.declared.CredentialRead.{CredentialRead}
 use Rattle.registry_state_credential.specs.declared.CredentialAt.{CredentialAt}

@@ -1,3 +1,4 @@
+pub use Rattle.registry_signatures.specs.SignatureSections
 pub mod Receipts
 pub mod Sequence
 pub mod Starred

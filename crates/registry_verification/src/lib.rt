@@ -3,3 +3,5 @@
 
 pub mod sequence;
 pub mod verification;
+
+pub use registry_signatures::Counted;

@@ -24,9 +24,9 @@ use Rattle.cesr.specs.declared.Said.{Said}
 use Rattle.cesr.proofs.Matters.{length-matter}
 use Rattle.codec_cursor.specs.Readers.{placed, Read, starting, read_number, read_if, read_identifier, read_said}
 use Rattle.codec.specs.Layout.{joined, section_bytes, all, said_bytes, seal_bytes, good_identifier, good_sn, good_said, good_seal}
-use Rattle.codec_laws.proofs.Stands.{Stands, stands-first, stands-rest, whole-stands}
-use Rattle.codec_laws.proofs.Codes.{codes-sn, codes-said, codes-identifier}
-use Rattle.registry_head.proofs.HeadWrites.{length-sn}
+use Rattle.registry_seals.proofs.Stands.{Stands, stands-first, stands-rest, whole-stands}
+use Rattle.registry_seals.proofs.Codes.{codes-sn, codes-said, codes-identifier}
+use Rattle.registry_state.proofs.HeadWrites.{length-sn}
 use Rattle.registry_wire.specs.Attempts.{Anchor, anchor_bytes, good_anchor, chosen_anchors, anchors_in, part_of, Holds}
 use Rattle.registry_seals.specs.SealSections.{chosen, seal_section, only_seal, anchor_seals}
 use Rattle.registry_wire.specs.declared.Part.{Part}

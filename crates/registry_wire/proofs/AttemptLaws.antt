@@ -16,14 +16,14 @@ use Rattle.laws.specs.Number.{Bytes}
 use Rattle.laws.proofs.Tests.{and_left}
 use Rattle.cesr.specs.Primitives.{read_matter}
 use Rattle.cesr.proofs.Matters.{length-matter}
-use Rattle.events_tel.specs.TelEvents.{Event}
+use Rattle.codec.specs.TelEvents.{Event}
 use Rattle.codec_cursor.specs.declared.Cursor.{Cursor}
 use Rattle.codec_cursor.specs.Readers.{placed, Read, starting, need, read_byte, read_if, read_identifier, counted, times, count_up_to, section}
 use Rattle.codec.specs.Events.{read_event}
 use Rattle.codec.specs.Layout.{joined}
 use Rattle.codec.proofs.Loops.{count-within}
-use Rattle.codec_laws.proofs.Codes.{codes-after}
-use Rattle.codec_laws.proofs.CodesList.{codes-times, codes-section}
+use Rattle.registry_seals.proofs.Codes.{codes-after}
+use Rattle.registry_seals.proofs.CodesList.{codes-times, codes-section}
 use Rattle.registry_state.specs.States.{read_registry}
 use Rattle.registry_source.specs.Sources.{read_source}
 use Rattle.registry_wire.specs.Attempts.{Anchor, Decoded, anchor_bytes, good_anchor, read_anchor, read_anchors, read_issuer, read_backer_at, read_evidence, read_message, decode_of, anchors_in, evidence_of, evidence_as, part_of, Holds, ReadAs, passed_anchors}

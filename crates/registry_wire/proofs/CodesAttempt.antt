@@ -14,19 +14,19 @@ use Rattle.cesr.specs.Primitives.{matter_bytes}
 use Rattle.cesr_sn.specs.declared.Sn.{Sn}
 use Rattle.cesr.specs.declared.Matter.{Matter}
 use Rattle.cesr.specs.declared.Said.{Said}
-use Rattle.events_tel.specs.TelEvents.{Event}
+use Rattle.codec.specs.TelEvents.{Event}
 use Rattle.events_seal.specs.declared.Seal.{Seal}
 use Rattle.codec_cursor.specs.declared.Cursor.{Cursor}
 use Rattle.codec_cursor.specs.Readers.{placed, starting, both, after, read_byte, read_identifier}
 use Rattle.codec.specs.Events.{read_seal}
 use Rattle.codec.specs.Layout.{joined, section_bytes, all, seal_bytes, good_identifier, good_seal, good_toad}
-use Rattle.codec_laws.proofs.Stands.{Stands, stays}
-use Rattle.codec_laws.proofs.Codes.{Told, Codes, led, leads, shift, mapped-is, codes-like, codes-map, codes-both, codes-after, codes-quad, codes-sn, codes-said, codes-identifier}
-use Rattle.codec_laws.proofs.CodesList.{codes-section}
-use Rattle.codec_laws.proofs.CodesSeal.{codes-byte-test, codes-seal}
-use Rattle.codec_laws.proofs.CodesEvent.{codes-event}
-use Rattle.codec_laws.proofs.CodesPlain.{plain, plain-told}
-use Rattle.codec_laws.proofs.CodesRound.{whole-sound, whole-complete}
+use Rattle.registry_seals.proofs.Stands.{Stands, stays}
+use Rattle.registry_seals.proofs.Codes.{Told, Codes, led, leads, shift, mapped-is, codes-like, codes-map, codes-both, codes-after, codes-quad, codes-sn, codes-said, codes-identifier}
+use Rattle.registry_seals.proofs.CodesList.{codes-section}
+use Rattle.registry_seals.proofs.CodesSeal.{codes-byte-test, codes-seal}
+use Rattle.registry_seals.proofs.CodesEvent.{codes-event}
+use Rattle.registry_seals.proofs.CodesPlain.{plain, plain-told}
+use Rattle.registry_seals.proofs.CodesRound.{whole-sound, whole-complete}
 use Rattle.registry_state.specs.States.{registry_bytes, read_registry}
 use Rattle.registry_source.specs.Sources.{source_bytes, good_source, source_of, read_source}
 use Rattle.registry_wire.specs.Attempts.{Anchor, Evidence, Message, anchor_bytes, evidence_bytes, attempt_bytes, good_anchor, good_anchors, good_evidence, good_message, read_seals, anchor_of, read_anchor, read_anchors, issuer_of, read_issuer, read_backer_at, read_evidence, message_of, read_message, decode_of}

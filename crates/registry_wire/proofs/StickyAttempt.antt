@@ -2,8 +2,8 @@
 --     sticky-sections  all that stands behind the event
 use lib.Dec.{leb, eqb}
 use Rattle.codec_cursor.specs.Readers.{read_byte, both, after, section}
-use Rattle.codec_laws.proofs.Stands.{passed}
-use Rattle.codec_laws.proofs.Sticky.{Sticky, sticky-both, sticky-mapped, sticky-byte, sticky-quad, sticky-number, sticky-said, sticky-identifier, sticky-byte-if, sticky-after, sticky-section, sticky-either, sticky-seal}
+use Rattle.registry_seals.proofs.Stands.{passed}
+use Rattle.registry_seals.proofs.Sticky.{Sticky, sticky-both, sticky-mapped, sticky-byte, sticky-quad, sticky-number, sticky-said, sticky-identifier, sticky-byte-if, sticky-after, sticky-section, sticky-either, sticky-seal}
 use Rattle.registry_state.proofs.StickyState.{sticky-registry}
 use Rattle.registry_source.specs.Sources.{source_of, read_source}
 use Rattle.registry_signatures.specs.SignatureSections.{signature_of, read_signature}

@@ -5,7 +5,7 @@ use Rattle.cesr.specs.Primitives.{matter_bytes, read_matter}
 use Rattle.cesr_sn.specs.declared.Sn.{Sn}
 use Rattle.cesr.specs.declared.Matter.{Matter}
 use Rattle.cesr.specs.declared.Said.{Said}
-use Rattle.events_tel.specs.TelEvents.{Event, view_event}
+use Rattle.codec.specs.TelEvents.{Event, view_event}
 use Rattle.events_seal.specs.declared.Seal.{Seal}
 use Rattle.codec_cursor.specs.declared.Cursor.{Cursor}
 use Rattle.codec_cursor.specs.Readers.{Read, Reader, placed, starting, need, read_byte, read_number, read_identifier, read_said, mapped, both, after, count_up_to, section}

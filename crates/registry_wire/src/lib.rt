@@ -4,15 +4,16 @@
 ghost use Rattle.std.specs.Prelude.{◌≡◌, true};
 ghost use Rattle.registry_wire.specs.Attempts.{read_anchor, read_issuer, read_backer_at, read_evidence, passed_anchors, part_of, Holds, ReadAs, view_decoded, decode_of};
 
+use codec::TelEvent;
 use codec::section::count_up_to;
 use codec_cursor::Cursor;
 use codec_seal::seal::pass_seals;
 use codec_tel::tel::read_event;
-use events_tel::TelEvent;
 use registry_signatures::Counted;
 use registry_signatures::signatures::pass_signatures;
+pub use registry_source::Source;
 use registry_source::pass_sources;
-use registry_state::RegistryState;
+pub use registry_state::RegistryState;
 
 // A part of the attempt's bytes. An empty one stands for nothing.
 #[derive(Clone, Copy)]

@@ -3,8 +3,8 @@ use native.Mathlib.Omega.{arith}
 use Prim.Native.Nat.{◌+◌, ◌<◌, ◌≤◌, ◌^◌}
 use lib.ListN.{length}
 use borrow.Author.Tests.{leb-true}
-use Rattle.laws.specs.Number.{number}
-use Rattle.laws.proofs.Number.{whole-number}
+use Rattle.cesr_number.specs.Number.{number}
+use Rattle.cesr_number.proofs.Number.{whole-number}
 use Rattle.cesr_sn.proofs.Words.{words-read, words-none}
 use Rattle.cesr_sn.proofs.Sn.read.Goals as goal
 

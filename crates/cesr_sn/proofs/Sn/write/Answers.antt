@@ -3,9 +3,9 @@ use native.Mathlib.Omega.{arith}
 use Prim.Native.Nat.{◌+◌, ◌≤◌}
 use lib.ListN.{length}
 use borrow.Author.Tests.{leb-true, not-true, not-false}
-use Rattle.laws.specs.Number.{digits}
-use Rattle.laws.proofs.Number.{length_digits}
-use Rattle.laws.proofs.Room.{true-room, refused, put-append}
+use Rattle.cesr_number.specs.Number.{digits}
+use Rattle.cesr_number.proofs.Number.{length_digits}
+use Rattle.cesr_number.proofs.Room.{true-room, refused, put-append}
 use Rattle.cesr_sn.specs.Numbers.{value, sn_bytes}
 use Rattle.cesr_sn.proofs.Words.{words-bytes}
 use Rattle.cesr_sn.proofs.Sn.write.Goals as goal

@@ -1,4 +1,4 @@
-use Rattle.codec_cursor.specs.Readers.{count_up_to}
+use Rattle.events_tel.specs.Readers.{count_up_to}
 use Rattle.codec.proofs.section.count_up_to.Goals as goal
 
 pub returns-then-next : goal.returns-then-next

@@ -2,8 +2,8 @@ use Prim.Native.Nat.{ℕ}
 use mathlib.Core.Path.{ap, ◌∙◌}
 use mathlib.Core.List.{List}
 use native.Mathlib.Omega.{arith}
-use Rattle.cesr.specs.declared.BasicPrefix.{BasicPrefix}
-use Rattle.codec_cursor.specs.Readers.{Read, read_prefix, times}
+use Rattle.events.specs.declared.BasicPrefix.{BasicPrefix}
+use Rattle.events_tel.specs.Readers.{Read, read_prefix, times}
 use Rattle.events_tel.specs.TelEvents.{members_in}
 use Rattle.codec.proofs.section.members_in.Goals as goal
 

@@ -2,7 +2,7 @@ use borrow.Author.Rules.{rules}
 use Prim.Native.Nat.{ℕ, ◌-◌}
 use mathlib.Core.Path.{refl, ap, ◌∙◌}
 use native.Mathlib.Omega.{arith}
-use Rattle.codec_cursor.specs.Readers.{read_prefix, times}
+use Rattle.events_tel.specs.Readers.{read_prefix, times}
 use Rattle.codec.proofs.Loops.{times-passed, listed-read}
 use Rattle.codec.proofs.section.pass_prefixes.Goals as goal
 

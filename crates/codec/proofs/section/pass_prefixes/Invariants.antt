@@ -1,6 +1,6 @@
 use Prim.Native.Nat.{◌≤◌, ◌-◌}
 use mathlib.Core.Path.{◌≡◌}
-use Rattle.codec_cursor.specs.Readers.{read_prefix, times}
+use Rattle.events_tel.specs.Readers.{read_prefix, times}
 use Rattle.codec.proofs.section.pass_prefixes.Given as goal
 
 abbrev pub invariant-loop-i : goal.invariant-loop-i

@@ -1,4 +1,4 @@
-use Rattle.codec_cursor.specs.Readers.{read_byte_if}
+use Rattle.events_tel.specs.Readers.{read_byte_if}
 use Rattle.codec.specs.Events.{read_config, is_config}
 use Rattle.codec.proofs.section.read_config.Goals as goal
 

@@ -3,7 +3,7 @@ use mathlib.Core.Path.{ap, ◌∙◌}
 use native.Mathlib.Omega.{arith}
 use borrow.Author.Rules.{rules}
 use Rattle.events_tel.specs.Configs.{pushed}
-use Rattle.codec_cursor.specs.Readers.{times, section}
+use Rattle.events_tel.specs.Readers.{times, section}
 use Rattle.codec.specs.Events.{read_config, read_configs}
 use Rattle.codec.proofs.Loops.{count-within, times-pushed, configs-room}
 use Rattle.codec.proofs.section.read_configs.Goals as goal

@@ -5,7 +5,7 @@ use mathlib.Core.List.{[], ◌∷◌, ◌++◌}
 use native.Mathlib.Omega.{arith}
 use lib.ListN.{length-set}
 use Rattle.events.specs.Members.{view}
-use Rattle.codec_cursor.specs.Readers.{read_prefix, times}
+use Rattle.events_tel.specs.Readers.{read_prefix, times}
 use Rattle.codec.proofs.Loops.{times-pushed, view-put}
 use Rattle.codec.proofs.section.read_members.Goals as goal
 

@@ -2,8 +2,8 @@ use Prim.Native.Nat.{◌≤◌, ◌-◌}
 use mathlib.Core.Path.{◌≡◌}
 use mathlib.Core.List.{List}
 use lib.ListN.{length, take}
-use Rattle.cesr.specs.declared.BasicPrefix.{BasicPrefix}
-use Rattle.codec_cursor.specs.Readers.{Read, read_prefix, times}
+use Rattle.events.specs.declared.BasicPrefix.{BasicPrefix}
+use Rattle.events_tel.specs.Readers.{Read, read_prefix, times}
 use Rattle.codec.proofs.section.read_members.Given as goal
 
 abbrev pub invariant-loop-i : goal.invariant-loop-i

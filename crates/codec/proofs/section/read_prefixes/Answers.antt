@@ -1,4 +1,4 @@
-use Rattle.codec_cursor.specs.Readers.{section}
+use Rattle.events_tel.specs.Readers.{section}
 use Rattle.codec.specs.Events.{read_prefixes}
 use Rattle.codec.proofs.Loops.{count-within}
 use Rattle.codec.proofs.section.read_prefixes.Goals as goal

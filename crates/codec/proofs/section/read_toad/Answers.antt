@@ -1,4 +1,4 @@
-use Rattle.cesr_sn.specs.Numbers.{value}
+use Rattle.events_tel.specs.Numbers.{value}
 use Rattle.codec.specs.Events.{read_toad}
 use Rattle.codec.proofs.section.read_toad.Goals as goal
 

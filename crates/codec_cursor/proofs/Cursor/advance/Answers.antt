@@ -3,8 +3,8 @@ use native.Mathlib.Omega.{arith}
 use Prim.Native.Nat.{◌+◌}
 use lib.ListN.{length}
 use borrow.Author.Tests.{leb-true}
-use Rattle.laws.specs.Room.{room}
-use Rattle.laws.proofs.Tests.{and_right}
+use Rattle.cesr_number.specs.Room.{room}
+use Rattle.cesr_number.proofs.Tests.{and_right}
 use Rattle.codec_cursor.specs.Readers.{advanced}
 use Rattle.codec_cursor.proofs.Cursor.advance.Goals as goal
 

@@ -1,5 +1,5 @@
 use borrow.Author.Tests.{eq-eqb, ne_eqb}
-use Rattle.codec_cursor.specs.Readers.{read_number, read_byte_if}
+use Rattle.codec.specs.Readers.{read_number, read_byte_if}
 use Rattle.codec.specs.Events.{read_seal, read_event_seal, read_other_seal}
 use Rattle.codec_seal.proofs.seal.pass_seal.Goals as goal
 

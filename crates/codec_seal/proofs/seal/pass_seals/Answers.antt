@@ -2,7 +2,7 @@ use Prim.Native.Nat.{ℕ, ◌-◌}
 use mathlib.Core.Path.{refl, ap, ◌∙◌}
 use native.Mathlib.Omega.{arith}
 use borrow.Author.Rules.{rules}
-use Rattle.codec_cursor.specs.Readers.{times, section}
+use Rattle.codec.specs.Readers.{times, section}
 use Rattle.codec.specs.Events.{read_seal}
 use Rattle.codec.proofs.Loops.{times-passed}
 use Rattle.codec_seal.proofs.seal.pass_seals.Goals as goal

@@ -1,6 +1,6 @@
 use Prim.Native.Nat.{◌≤◌, ◌-◌}
 use mathlib.Core.Path.{◌≡◌}
-use Rattle.codec_cursor.specs.Readers.{times}
+use Rattle.codec.specs.Readers.{times}
 use Rattle.codec.specs.Events.{read_seal}
 use Rattle.codec_seal.proofs.seal.pass_seals.Given as goal
 

@@ -1,4 +1,4 @@
-use Rattle.codec_cursor.specs.Readers.{read_byte_if}
+use Rattle.codec.specs.Readers.{read_byte_if}
 use Rattle.codec.specs.Events.{read_other_seal}
 use Rattle.codec_seal.proofs.seal.read_other_seal.Goals as goal
 

@@ -1,5 +1,5 @@
 use Rattle.codec_cursor.specs.Readers.{read_if, read_said}
-use Rattle.codec.specs.Events.{read_bis, read_brv}
+use Rattle.codec_tel_registry.specs.Events.{read_bis, read_brv}
 use Rattle.codec_tel.proofs.tel.read_backed.Goals as goal
 
 pub returns-then-issues : goal.returns-then-issues

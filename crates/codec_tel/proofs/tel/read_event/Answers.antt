@@ -6,7 +6,7 @@ use lib.Dec.{eqb}
 use borrow.Author.Tests.{ne_eqb}
 use Rattle.codec_cursor.specs.declared.Cursor.{Cursor}
 use Rattle.codec_cursor.specs.Readers.{need}
-use Rattle.codec.specs.Events.{read_bis, read_brv, read_kind, read_event}
+use Rattle.codec_tel_registry.specs.Events.{read_bis, read_brv, read_kind, read_event}
 use Rattle.codec_tel.proofs.tel.read_event.Goals as goal
 
 -- a bis keeps its cursor, and of the other kinds only 6 goes on

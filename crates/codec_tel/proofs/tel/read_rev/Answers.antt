@@ -1,5 +1,5 @@
 use Rattle.codec_cursor.specs.Readers.{read_if, read_said}
-use Rattle.codec.specs.Events.{read_rev}
+use Rattle.codec_tel_registry.specs.Events.{read_rev}
 use Rattle.codec_tel.proofs.tel.read_rev.Goals as goal
 
 pub returns : goal.returns

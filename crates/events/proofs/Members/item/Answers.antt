@@ -1,7 +1,7 @@
 use mathlib.Core.Path.{◌≡◌, sym, ◌∙◌}
 use native.Mathlib.Omega.{arith}
 use lib.ListN.{length}
-use Rattle.laws.proofs.Views.{length-mapped}
+use Rattle.cesr.proofs.Views.{length-mapped}
 use Rattle.events.specs.Members.{view}
 use Rattle.events.proofs.MemberLaws.{view-at, at_none}
 use Rattle.events.proofs.Members.item.Goals as goal

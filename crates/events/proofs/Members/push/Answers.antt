@@ -4,7 +4,7 @@ use native.Mathlib.Omega.{arith}
 use borrow.Author.Tests.{lt-ltb, le-ltb}
 use Prim.Native.Nat.{◌<◌, ◌≤◌}
 use lib.ListN.{length}
-use Rattle.laws.proofs.Views.{length-mapped}
+use Rattle.cesr.proofs.Views.{length-mapped}
 use Rattle.events.specs.Members.{view}
 use Rattle.events.proofs.MemberLaws.{view-size, view-push, pushed_room, pushed-full}
 use Rattle.events.proofs.Members.push.Goals as goal

@@ -1,7 +1,7 @@
 use mathlib.Core.Path.{◌≡◌}
 use native.Mathlib.Omega.{arith}
 use lib.ListN.{length}
-use Rattle.laws.proofs.Views.{length-mapped}
+use Rattle.cesr.proofs.Views.{length-mapped}
 use Rattle.events.proofs.MemberLaws.{view-size}
 use Rattle.events.proofs.Members.size.Goals as goal
 

@@ -1,5 +1,5 @@
 use native.Mathlib.Omega.{arith}
-use Rattle.laws.proofs.Views.{take_counted}
+use Rattle.cesr.proofs.Views.{take_counted}
 use Rattle.events.specs.Members.{view}
 use Rattle.events.proofs.Members.trimmed.Goals as goal
 

@@ -2,7 +2,7 @@ use Prim.Native.Nat.{◌-◌}
 use mathlib.Core.Path.{sym, ◌∙◌}
 use native.Mathlib.Omega.{arith}
 use borrow.Author.Count.{below_more}
-use Rattle.laws.proofs.Words.{same-lengths, same-differ, same-agree}
+use Rattle.codec_cursor.proofs.Words.{same-lengths, same-differ, same-agree}
 use Rattle.events_tel.specs.Configs.{view_configs}
 use Rattle.events_tel.proofs.Configs.same.Goals as goal
 

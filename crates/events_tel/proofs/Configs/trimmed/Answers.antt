@@ -2,7 +2,7 @@ use mathlib.Core.Path.{◌≡◌}
 use native.Mathlib.Omega.{arith}
 use lib.ListN.{length}
 use Rattle.events_tel.proofs.ConfigLaws.{view-size}
-use Rattle.laws.proofs.Views.{take_counted}
+use Rattle.codec_cursor.proofs.Views.{take_counted}
 use Rattle.events_tel.specs.Configs.{view_configs}
 use borrow.Author.Rules.{rules}
 use Rattle.events_tel.proofs.Configs.trimmed.Goals as goal

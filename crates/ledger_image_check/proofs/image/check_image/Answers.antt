@@ -1,5 +1,5 @@
 use Rattle.codec.specs.Events.{view_count_read}
-use Rattle.ledger_image_ids.specs.IdLists.{view_ids}
+use Rattle.ledger_image_rows_check.specs.IdLists.{view_ids}
 use Rattle.ledger_image_check.proofs.CheckLaws.{Made, answer-held, answer-rows, answer-refused}
 use Rattle.ledger_image_check.proofs.image.check_image.Goals as goal
 

@@ -6,8 +6,8 @@ use lib.ListN.{length}
 use Rattle.codec_cursor.specs.Readers.{times}
 use Rattle.codec.specs.Events.{view_count_read}
 use Rattle.ledger_image.specs.Images.{wide_count}
-use Rattle.ledger_image_ids.specs.IdLists.{view_ids}
-use Rattle.ledger_image_ids.proofs.IdViews.{pushed_room}
+use Rattle.ledger_image_rows_check.specs.IdLists.{view_ids}
+use Rattle.ledger_image_rows_check.proofs.IdViews.{pushed_room}
 use Rattle.ledger_image_check.specs.Checks.{registries_pass}
 use Rattle.ledger_image_check.proofs.Counts.{count-within}
 use Rattle.ledger_image_check.proofs.RegistryChecks.{turn, section-end}

@@ -1,5 +1,5 @@
 use Prim.Native.Nat.{◌≤◌, ◌-◌}
-use Rattle.ledger_image_ids.specs.IdLists.{view_ids}
+use Rattle.ledger_image_rows_check.specs.IdLists.{view_ids}
 use Rattle.ledger_image_check.proofs.RegistryChecks.{Turned}
 use Rattle.ledger_image_check.proofs.registries.check_registries.Given as goal
 

@@ -2,7 +2,7 @@ use Prim.Native.Nat.{◌-◌}
 use mathlib.Core.Path.{◌≡◌, refl, ◌∙◌}
 use native.Mathlib.Omega.{arith}
 use borrow.Author.Rules.{rules}
-use Rattle.ledger_step.specs.Tables.{has}
+use Rattle.ledger_image_ids.specs.Tables.{has}
 use Rattle.ledger_image_rows_check.specs.RowTests.{keys_from}
 use Rattle.ledger_image_rows_check.proofs.RowChecks.{key-next}
 use Rattle.ledger_image_rows_check.proofs.rows.has_key.Goals as goal

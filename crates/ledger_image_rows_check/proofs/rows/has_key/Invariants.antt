@@ -1,8 +1,8 @@
 use Prim.Native.Nat.{◌≤◌, ◌-◌}
 use mathlib.Core.Path.{◌≡◌}
-use Rattle.registry_laws.specs.Pairs.{key_of}
-use Rattle.ledger_step.specs.Tables.{has}
-use Rattle.ledger_step.specs.Ledgers.{eq_pair}
+use Rattle.ledger_image_ids.specs.Pairs.{key_of}
+use Rattle.ledger_image_ids.specs.Tables.{has}
+use Rattle.ledger_image_ids.specs.Ledgers.{eq_pair}
 use Rattle.ledger_image_rows_check.specs.RowTests.{keys_from}
 use Rattle.ledger_image_rows_check.proofs.rows.has_key.Given as goal
 

@@ -1,4 +1,4 @@
-use Rattle.registry_laws.specs.Pairs.{key_of}
+use Rattle.ledger_image_ids.specs.Pairs.{key_of}
 use Rattle.ledger_image_rows_check.specs.RowTests.{key_at}
 use Rattle.ledger_image_rows_check.proofs.RowChecks.{other_word}
 use Rattle.ledger_image_rows_check.proofs.rows.same_key.Goals as goal

@@ -5,8 +5,8 @@ use mathlib.Core.List.{List}
 use lib.Dec.{eqb}
 use borrow.Author.Rules.{rules}
 use Rattle.codec_cursor.specs.Readers.{starting}
-use Rattle.ledger_image.specs.Images.{read_registries, image_of, image_into}
-use Rattle.ledger_image.specs.Images.ImageAnswer.{refused}
+use Rattle.ledger_row_image.specs.Images.{read_registries, image_of, image_into}
+use Rattle.ledger_row_image.specs.Images.ImageAnswer.{refused}
 use Rattle.ledger_image_check.specs.Checks.{ImageCheck, checked_by, checked_of}
 use Rattle.ledger_read.specs.ImageReads.{plan_of}
 use Rattle.ledger_read.proofs.read.planned.Statement.{statement}

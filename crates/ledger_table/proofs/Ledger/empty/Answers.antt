@@ -1,5 +1,5 @@
 use mathlib.Core.Path.{refl}
-use Rattle.ledger_step.specs.Ledgers.{lent_ledger}
+use Rattle.ledger_image.specs.Ledgers.{lent_ledger}
 use Rattle.ledger_image.specs.Images.{ledger_of}
 use Rattle.ledger_table.specs.Tables.{view_ledger}
 use Rattle.ledger_table.proofs.Ledger.empty.Goals as goal

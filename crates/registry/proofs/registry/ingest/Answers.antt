@@ -4,7 +4,7 @@ use mathlib.Core.Bool.{false, ◌&&◌, false≢true}
 use borrow.Author.Tests.{not-true, not-false}
 use Rattle.laws.proofs.Tests.{and_left, and_right}
 use Rattle.registry_state.specs.States.{view_registry}
-use Rattle.registry_wire.specs.Attempts.{view_attempt}
+use Rattle.registry_backer.specs.Attempts.{view_attempt}
 use Rattle.registry_authentication.proofs.AnchorUse.{decoded-good, anchored-parts}
 use Rattle.registry_answer.specs.Answers.{accepts}
 use Rattle.registry_inception.specs.declared.RegistryOutcome.{RegistryOutcome}

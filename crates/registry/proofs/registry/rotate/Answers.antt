@@ -5,7 +5,7 @@ use Rattle.events.specs.Members.{view}
 use Rattle.events_tel.specs.declared.Kind.{Kind}
 use Rattle.events_tel.specs.TelEvents.{members_in, event_as}
 use Rattle.registry_state.specs.States.{view_registry}
-use Rattle.registry_wire.specs.Attempts.{view_attempt}
+use Rattle.registry_backer.specs.Attempts.{view_attempt}
 use Rattle.registry_answer.specs.Answers.{accepts}
 use Rattle.registry_members.specs.Updated.{updated_members}
 use Rattle.registry.specs.RegistryFolds.{ingest_event, rotated}

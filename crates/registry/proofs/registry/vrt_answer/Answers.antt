@@ -1,4 +1,4 @@
-use Rattle.registry_wire.specs.Attempts.{sources_in}
+use Rattle.registry_backer.specs.Attempts.{sources_in}
 use native.Mathlib.Omega.{arith}
 use Rattle.cesr.specs.Primitives.{said_at}
 use Rattle.registry_authentication.proofs.AnchorUse.{issuer-in}

@@ -1,9 +1,9 @@
 use mathlib.Core.Path.{◌≡◌, sym, ◌∙◌}
 use borrow.Author.Tests.{not-true, not-false}
 use Rattle.cesr.specs.Primitives.{read_matter, said_at}
-use Rattle.registry_state.specs.States.{read_registry, optional}
+use Rattle.registry_wire.specs.States.{read_registry, optional}
 use Rattle.registry_seals.specs.SealSections.{chosen}
-use Rattle.registry_source.specs.Sources.{read_source}
+use Rattle.registry_wire.specs.Sources.{read_source}
 use Rattle.registry_wire.specs.Attempts.{part_of}
 use Rattle.registry_authentication.specs.Issuers.{anchored_in, authenticate_in}
 use Rattle.registry_authentication.proofs.EvidenceLaws.{wrong-kind, wrong-prefix, by-anchor}

@@ -1,4 +1,4 @@
-use Rattle.registry_state.specs.States.{read_registry}
+use Rattle.registry_wire.specs.States.{read_registry}
 use Rattle.registry_signatures.specs.SignatureSections.{signatures_in}
 use Rattle.registry_management.specs.Managements.{view_management}
 use Rattle.registry_backer.proofs.AuthorityLaws.{by-own}

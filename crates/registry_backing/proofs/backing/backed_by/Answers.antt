@@ -4,7 +4,7 @@ use native.Mathlib.Omega.{arith}
 use lib.ListN.{length}
 use borrow.Author.Tests.{not-true, not-false}
 use Rattle.events_toad.specs.Toads.{exact_ok}
-use Rattle.registry_signatures.specs.SignatureSections.{signatures_in}
+use Rattle.registry_verification.specs.SignatureSections.{signatures_in}
 use Rattle.registry_answer.specs.Answers.{backer_set}
 use Rattle.registry_backing.specs.Backings.{enough_receipts}
 use Rattle.registry_backing.proofs.BackedLaws.{repeated, unfit, receipted}

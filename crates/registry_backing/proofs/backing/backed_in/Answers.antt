@@ -1,7 +1,7 @@
 use Prim.Native.Nat.{min}
 use mathlib.Core.Path.{sym, ◌∙◌}
 use native.Mathlib.Omega.{arith}
-use Rattle.events_tel.specs.TelEvents.{members_in}
+use Rattle.codec.specs.TelEvents.{members_in}
 use Rattle.codec_cursor.specs.Readers.{read_prefix}
 use Rattle.codec.proofs.Loops.{length-times}
 use Rattle.registry_backing.proofs.backing.backed_in.Goals as goal

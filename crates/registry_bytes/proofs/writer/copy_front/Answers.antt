@@ -10,9 +10,9 @@ use lib.ListN.{length}
 use lib.Seq.{sets}
 use Rattle.laws.proofs.Room.{stored, refused, put-sets}
 use Rattle.cesr.specs.Primitives.{read_matter}
-use Rattle.events_tel.specs.Configs.{view_configs}
-use Rattle.events_tel.proofs.ConfigLaws.{view-size}
-use Rattle.codec.specs.Layout.{section_bytes, byte_bytes}
+use Rattle.codec_laws.specs.Configs.{view_configs}
+use Rattle.codec_laws.proofs.ConfigLaws.{view-size}
+use Rattle.codec_laws.specs.Layout.{section_bytes, byte_bytes}
 use Rattle.registry_head.specs.HeadBytes.{head_bytes}
 use Rattle.registry_head.proofs.HeadWrites.{length-head}
 use Rattle.registry_bytes.specs.StateBytes.{front_bytes}

@@ -3,8 +3,8 @@ use mathlib.Core.Path.{◌≡◌}
 use native.Mathlib.Omega.{arith}
 use borrow.Author.Rules.{rules}
 use lib.ListN.{length}
-use Rattle.events_tel.specs.Configs.{view_configs}
-use Rattle.events_tel.proofs.ConfigLaws.{view-size}
+use Rattle.codec_laws.specs.Configs.{view_configs}
+use Rattle.codec_laws.proofs.ConfigLaws.{view-size}
 use Rattle.registry_bytes.proofs.writer.state_size.Goals as goal
 
 pub overflow_add-result : goal.overflow_add-result

@@ -7,7 +7,7 @@ use lib.Seq.{take_all}
 use Rattle.laws.proofs.Views.{length-mapped}
 use Rattle.events.specs.Members.{view}
 use Rattle.events.proofs.MemberLaws.{view-at}
-use Rattle.codec.specs.Layout.{joined, section_bytes}
+use Rattle.codec_laws.specs.Layout.{joined, section_bytes}
 use Rattle.registry_bytes.proofs.StateWrites.{backer-step}
 use Rattle.registry_bytes.proofs.writer.write_backers.Goals as goal
 

@@ -3,7 +3,7 @@ use mathlib.Core.Path.{◌≡◌}
 use lib.ListN.{length, take}
 use lib.Seq.{sets}
 use Rattle.events.specs.Members.{view}
-use Rattle.codec.specs.Layout.{joined, prefix_bytes}
+use Rattle.codec_laws.specs.Layout.{joined, prefix_bytes}
 use Rattle.registry_bytes.proofs.writer.write_backers.Given as goal
 
 abbrev pub invariant-loop-i : goal.invariant-loop-i

@@ -4,9 +4,9 @@ use native.Mathlib.Omega.{arith}
 use borrow.Author.Rules.{rules}
 use lib.ListN.{length, length-set}
 use lib.Seq.{take_all}
-use Rattle.events_tel.specs.Configs.{view_configs}
-use Rattle.events_tel.proofs.ConfigLaws.{view-size}
-use Rattle.codec.specs.Layout.{joined, section_bytes}
+use Rattle.codec_laws.specs.Configs.{view_configs}
+use Rattle.codec_laws.proofs.ConfigLaws.{view-size}
+use Rattle.codec_laws.specs.Layout.{joined, section_bytes}
 use Rattle.registry_bytes.proofs.StateWrites.{config-step}
 use Rattle.registry_bytes.proofs.writer.write_configs.Goals as goal
 

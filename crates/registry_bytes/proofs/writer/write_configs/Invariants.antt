@@ -2,8 +2,8 @@ use Prim.Native.Nat.{◌≤◌, ◌-◌}
 use mathlib.Core.Path.{◌≡◌}
 use lib.ListN.{length, take}
 use lib.Seq.{sets}
-use Rattle.events_tel.specs.Configs.{view_configs}
-use Rattle.codec.specs.Layout.{joined, byte_bytes}
+use Rattle.codec_laws.specs.Configs.{view_configs}
+use Rattle.codec_laws.specs.Layout.{joined, byte_bytes}
 use Rattle.registry_bytes.proofs.writer.write_configs.Given as goal
 
 abbrev pub invariant-loop-i : goal.invariant-loop-i

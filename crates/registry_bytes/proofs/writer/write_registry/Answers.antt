@@ -8,7 +8,7 @@ use lib.Dec.{leb}
 use lib.ListN.{length}
 use lib.Seq.{sets}
 use Rattle.laws.proofs.Room.{stored, refused, put-sets}
-use Rattle.events_tel.specs.Configs.{view_configs}
+use Rattle.codec_laws.specs.Configs.{view_configs}
 use Rattle.events.specs.Members.{view}
 use Rattle.registry_head.specs.HeadBytes.{head_bytes}
 use Rattle.registry_head.proofs.HeadWrites.{length-head}

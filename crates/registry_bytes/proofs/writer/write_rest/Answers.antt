@@ -4,9 +4,9 @@ use native.Mathlib.Omega.{arith}
 use borrow.Rule.Slice.PartMut.{put_mid}
 use lib.ListN.{length}
 use lib.Seq.{sets, length-sets}
-use Rattle.events_tel.specs.Configs.{view_configs}
+use Rattle.codec_laws.specs.Configs.{view_configs}
 use Rattle.events.specs.Members.{view}
-use Rattle.codec.specs.Layout.{section_bytes, byte_bytes, prefix_bytes}
+use Rattle.codec_laws.specs.Layout.{section_bytes, byte_bytes, prefix_bytes}
 use Rattle.registry_bytes.proofs.StateWrites.{part-stored, rest-sets}
 use Rattle.registry_bytes.proofs.writer.write_rest.Goals as goal
 

@@ -3,7 +3,7 @@ use native.Mathlib.Omega.{arith}
 use borrow.Author.Tests.{not-true, not-false}
 use Rattle.cesr.specs.Primitives.{said_at}
 use Rattle.events_tel.specs.TelEvents.{sn_one}
-use Rattle.registry_wire.specs.Attempts.{sources_in, view_attempt}
+use Rattle.registry_backer.specs.Attempts.{sources_in, view_attempt}
 use Rattle.registry_management.specs.Managements.{view_management}
 use Rattle.registry_authentication.proofs.AnchorUse.{issuer-in}
 use Rattle.registry_credential_state.proofs.CredentialLaws.{rev-routed, rev-flavor, rev-issuer}

@@ -1,7 +1,7 @@
 use Rattle.events_tel.specs.declared.Kind.{Kind}
 use Rattle.events_tel.specs.TelEvents.{event_as}
 use Rattle.cesr.specs.Primitives.{read_matter}
-use Rattle.registry_wire.specs.Attempts.{view_attempt}
+use Rattle.registry_authentication.specs.Attempts.{view_attempt}
 use mathlib.Core.Path.{sym, ap, ◌∙◌}
 use borrow.Author.Tests.{not-true, not-false}
 use Rattle.registry_inception.specs.InceptionFolds.{incept_event}

@@ -1,7 +1,7 @@
 use native.Mathlib.Omega.{arith}
 use mathlib.Core.Path.{ap, subst, sym, ◌∙◌}
 use mathlib.Core.Bool.{true, false, false≢true}
-use Rattle.registry_state.specs.States.{view_registry}
+use Rattle.registry_authentication.specs.States.{view_registry}
 use Rattle.registry_answer.specs.Answers.{accepts}
 use Rattle.registry_inception.specs.InceptionFolds.{Outcome}
 use Rattle.registry_inception.proofs.WellLaws.{Lettered, well-by-view}

@@ -1,5 +1,5 @@
 use Rattle.cesr.specs.declared.Said.{Said}
-use Rattle.registry_wire.specs.Attempts.{anchors_in, sources_in, part_of}
+use Rattle.registry_authentication.specs.Attempts.{anchors_in, sources_in, part_of}
 use Rattle.registry_authentication.specs.Issuers.{anchored, anchored_in}
 use mathlib.Core.Path.{◌≡◌, ap, ◌∙◌}
 use native.Mathlib.Omega.{arith}

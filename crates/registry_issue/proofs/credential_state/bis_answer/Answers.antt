@@ -3,7 +3,7 @@ use native.Mathlib.Omega.{arith}
 use borrow.Author.Tests.{not-true, not-false}
 use Rattle.cesr.specs.Primitives.{read_matter, said_at}
 use Rattle.events_tel.specs.TelEvents.{sn_zero}
-use Rattle.registry_wire.specs.Attempts.{sources_in, view_attempt}
+use Rattle.registry_backer.specs.Attempts.{sources_in, view_attempt}
 use Rattle.registry_management.specs.Managements.{view_management}
 use Rattle.registry_authentication.proofs.AnchorUse.{message-in}
 use Rattle.registry_issue.proofs.IssueLaws.{bis-routed, bis-flavor, bis-anchor, bis-backed}

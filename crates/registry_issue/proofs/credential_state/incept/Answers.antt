@@ -4,7 +4,7 @@ use borrow.Author.Tests.{not-true, not-false}
 use Rattle.cesr.specs.Primitives.{said_at}
 use Rattle.events.specs.Members.{view}
 use Rattle.events_tel.specs.TelEvents.{sn_zero}
-use Rattle.registry_state.specs.States.{Registry, view_registry}
+use Rattle.registry_management.specs.States.{Registry, view_registry}
 use Rattle.registry_state_credential.specs.CredentialStates.{no_credential}
 use Rattle.registry_answer.specs.Answers.{accepts}
 use Rattle.registry_issue.specs.IssueFolds.{issue_at, incept_if, incept_of}

@@ -1,6 +1,6 @@
 use Rattle.events_tel.specs.declared.Kind.{Kind}
 use Rattle.events_tel.specs.TelEvents.{event_as}
-use Rattle.registry_wire.specs.Attempts.{view_attempt}
+use Rattle.registry_backer.specs.Attempts.{view_attempt}
 use mathlib.Core.Path.{sym, ap, ◌∙◌}
 use borrow.Author.Tests.{not-true, not-false}
 use Rattle.registry_management.specs.Managements.{view_management}

@@ -10,7 +10,7 @@ use borrow.Author.Tests.{not-true, not-false, le-leb, lt-leb}
 use Rattle.laws.proofs.Views.{length-mapped}
 use Rattle.events.specs.Members.{view, at, has}
 use Rattle.events.proofs.MemberLaws.{view-size, view-at}
-use Rattle.events_tel.specs.TelEvents.{members_in}
+use Rattle.codec.specs.TelEvents.{members_in}
 use Rattle.codec.proofs.Loops.{times-next, view-put}
 use Rattle.codec_cursor.specs.Readers.{read_prefix, times}
 use Rattle.registry_members.specs.Updated.{survivors, updated_members}

@@ -7,9 +7,9 @@ use borrow.Author.Rules.{rules}
 use borrow.Author.Count.{below_more}
 use Rattle.events.specs.Members.{breaks}
 use Rattle.events.proofs.MemberLaws.{check-found, all_sound}
-use Rattle.events_tel.specs.declared.Listed.{Listed}
+use Rattle.codec.specs.declared.Listed.{Listed}
 use Rattle.codec.proofs.Loops.{times-next}
-use Rattle.codec_cursor.specs.Readers.{read_prefix, times}
+use Rattle.codec.specs.Readers.{read_prefix, times}
 use Rattle.codec.proofs.Loops.{length-times}
 use Rattle.registry_rotation.proofs.Listed.{all_listed, listed-breaks}
 use Rattle.registry_rotation.proofs.deltas.check_listed.Goals as goal

@@ -3,7 +3,7 @@ use mathlib.Core.Path.{◌≡◌}
 use mathlib.Core.Bool.{false, cond}
 use mathlib.Core.List.{[]}
 use Rattle.events.specs.Members.{breaks}
-use Rattle.codec_cursor.specs.Readers.{read_prefix, times}
+use Rattle.codec.specs.Readers.{read_prefix, times}
 use Rattle.registry_rotation.proofs.deltas.check_listed.Given as goal
 
 abbrev pub invariant-loop-i : goal.invariant-loop-i

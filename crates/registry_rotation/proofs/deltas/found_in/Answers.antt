@@ -4,7 +4,7 @@ use native.Mathlib.Omega.{arith}
 use borrow.Author.Rules.{rules}
 use Rattle.events.specs.Members.{has}
 use Rattle.codec.proofs.Loops.{times-passed}
-use Rattle.codec_cursor.specs.Readers.{read_prefix, times}
+use Rattle.codec.specs.Readers.{read_prefix, times}
 use Rattle.registry_rotation.proofs.Listed.{has_more}
 use Rattle.registry_rotation.proofs.deltas.found_in.Goals as goal
 

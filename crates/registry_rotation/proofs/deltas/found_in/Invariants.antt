@@ -1,7 +1,7 @@
 use Prim.Native.Nat.{◌≤◌, ◌-◌}
 use mathlib.Core.Path.{◌≡◌}
 use Rattle.events.specs.Members.{has}
-use Rattle.codec_cursor.specs.Readers.{read_prefix, times}
+use Rattle.codec.specs.Readers.{read_prefix, times}
 use Rattle.registry_rotation.proofs.deltas.found_in.Given as goal
 
 abbrev pub invariant-loop-i : goal.invariant-loop-i

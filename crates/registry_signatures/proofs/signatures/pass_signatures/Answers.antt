@@ -1,8 +1,8 @@
-use Rattle.codec_cursor.specs.declared.Cursor.{Cursor}
+use Rattle.codec.specs.declared.Cursor.{Cursor}
 use Prim.Native.Nat.{ℕ, ◌-◌}
 use mathlib.Core.Path.{refl, ap, ◌∙◌}
 use native.Mathlib.Omega.{arith}
-use Rattle.codec_cursor.specs.Readers.{times, section}
+use Rattle.codec.specs.Readers.{times, section}
 use Rattle.codec.proofs.Loops.{times-next}
 use Rattle.registry_signatures.specs.SignatureSections.{read_signature, passed_signatures}
 use borrow.Author.Rules.{rules}

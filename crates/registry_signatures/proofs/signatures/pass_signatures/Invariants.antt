@@ -1,6 +1,6 @@
 use Prim.Native.Nat.{◌≤◌, ◌-◌}
 use mathlib.Core.Path.{◌≡◌}
-use Rattle.codec_cursor.specs.Readers.{times}
+use Rattle.codec.specs.Readers.{times}
 use Rattle.registry_signatures.specs.SignatureSections.{read_signature}
 use Rattle.registry_signatures.proofs.signatures.pass_signatures.Given as goal
 

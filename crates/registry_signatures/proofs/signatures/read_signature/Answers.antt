@@ -1,4 +1,4 @@
-use Rattle.codec_cursor.specs.Readers.{read_byte_if}
+use Rattle.codec.specs.Readers.{read_byte_if}
 use Rattle.registry_signatures.specs.SignatureSections.{read_signature}
 use Rattle.registry_signatures.proofs.signatures.read_signature.Goals as goal
 

@@ -1,4 +1,4 @@
-use Rattle.codec_cursor.specs.Readers.{read_number, read_quad}
+use Rattle.codec.specs.Readers.{read_number, read_quad}
 use Rattle.registry_state.specs.States.{read_registry}
 use Rattle.registry_state.proofs.RegistryState.pass.Goals as goal
 

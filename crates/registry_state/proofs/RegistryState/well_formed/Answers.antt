@@ -1,4 +1,4 @@
-use Rattle.codec_cursor.specs.Readers.{is_identifier}
+use Rattle.codec.specs.Readers.{is_identifier}
 use Rattle.registry_state.specs.States.{well_registry}
 use Rattle.registry_state.proofs.RegistryState.well_formed.Goals as goal
 

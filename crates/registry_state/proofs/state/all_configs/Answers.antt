@@ -3,7 +3,7 @@ use mathlib.Core.Path.{sym}
 use native.Mathlib.Omega.{arith}
 use borrow.Author.Count.{below_more}
 use borrow.Author.Tests.{not-true, not-false}
-use Rattle.events_tel.specs.Configs.{view_configs}
+use Rattle.codec.specs.Configs.{view_configs}
 use Rattle.codec.specs.Events.{is_config}
 use Rattle.registry_state.proofs.StateLoops.{all_pass, all-fail}
 use Rattle.registry_state.proofs.state.all_configs.Goals as goal

@@ -2,7 +2,7 @@ use Prim.Native.Nat.{ℕ, ◌<◌, ◌-◌}
 use mathlib.Core.Path.{◌≡◌}
 use mathlib.Core.Bool.{true}
 use lib.ListN.{get_or}
-use Rattle.events_tel.specs.Configs.{view_configs}
+use Rattle.codec.specs.Configs.{view_configs}
 use Rattle.codec.specs.Events.{is_config}
 use Rattle.registry_state.proofs.state.all_configs.Given as goal
 

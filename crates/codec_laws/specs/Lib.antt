@@ -1,0 +1,3 @@
+pub use Rattle.codec.specs.Configs
+pub use Rattle.codec.specs.Events
+pub use Rattle.codec.specs.Layout

@@ -1,0 +1,2 @@
+pub use Rattle.ledger_asked.proofs.Chains
+pub use Rattle.ledger_asked.proofs.RequestLaws
