@@ -1,2 +1,4 @@
 pub mod LineLaws
 pub mod RunOutput
+pub mod Shown
+pub mod Turns

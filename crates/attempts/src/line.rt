@@ -39,7 +39,7 @@ pub struct Answered {
     pub ledger: Ledger,
 }
 
-// The line goes to the start of the buffer, where it has room.
+// The line goes to the start of the buffer, where it has room; 27 bytes are room for any.
 pub(crate) fn answer_attempt(
     ledger: Ledger,
     position: u64,
@@ -50,6 +50,7 @@ pub(crate) fn answer_attempt(
     ensures size { result.size ≡ size_in out.old (line_of (view_ledger ledger) position attempt.now) }
     ensures ledger { view_ledger result.ledger ≡ next_of (view_ledger ledger) attempt.now }
     ensures within { result.size ≤ length out.new }
+    ensures short { length (line_of (view_ledger ledger) position attempt.now) ≤ 27 }
 {
     let applied = apply(ledger, attempt);
     let answer = applied.answer;

@@ -1,80 +1,114 @@
 // Makes the attempts of its standard input against a ledger that starts empty, and prints a line for each, then what is held (docs/RULES.md,
-// "What the program prints"). The input may be of any length, so one attempt is held at a time. What the pieces of the input mean, what an attempt
-// comes to and how a line is written are functions with contracts; here they are only called, between reading and writing.
+// "What the program prints"). The input may be of any length, so one attempt is held at a time. What the pieces of the input mean, what an
+// attempt comes to and how a line is written are functions of other crates. `answer_all` calls them, between reading and writing, and is
+// proved of any reader and writer whose bytes are known; of the standard streams no more is known than that these are their bytes.
 #![tactic(auto)]
 
 mod line;
 
-ghost use Rattle.std.specs.Prelude.{◌≡◌, cond, ◌≤◌, length};
+ghost use Rattle.std.specs.Prelude.{◌≡◌, ◌-◌, ◌≤◌, [], cond, length, take, IfOk, IfSome, OnOk};
+ghost use Rattle.std.specs.Io.KnownBytes.{Appends};
+ghost use Rattle.reading.specs.Fronts.{Takes};
 ghost use Rattle.ledger_table.specs.Tables.{view_ledger};
-ghost use Rattle.attempts.specs.Answering.{next_of};
+ghost use Rattle.ledger_text.specs.Lines.{last_line, broken_line};
+ghost use Rattle.ledger_frames.specs.Runs.{start_of, size_of};
+ghost use Rattle.attempts.specs.Answering.{next_of, line_of, output_of};
 
 use ledger_frames::framing::read_size;
 use ledger_frames::{Run, Size};
 use ledger_table::Ledger;
 use ledger_text::text::write_last;
-use libc::{STDIN_FILENO, STDOUT_FILENO};
 use line::answer_attempt;
+use reading::read_full;
+use std::io;
+use std::io::{Read, Write};
 
 // The input's count of attempts.
-fn read_count() -> Run {
+fn read_count<R: Read>(reader: &mut R) -> io::Result<Run>
+    ensures { IfOk result (λ run. Takes (R.remaining reader.old) (R.remaining reader.new) 2 (λ bytes. run ≡ start_of bytes)) }
+{
     let mut bytes = [0u8; 2];
-    let n = io::read_full(STDIN_FILENO, &mut bytes);
-    Run::start(&bytes[..n])
+    let n = read_full(reader, &mut bytes)?;
+    Ok(Run::start(&bytes[..n]))
 }
 
 // The length of the next attempt.
-fn read_length() -> Size
-    ensures { result.size ≤ 65535 }
+fn read_length<R: Read>(reader: &mut R) -> io::Result<Size>
+    ensures value { IfOk result (λ length. Takes (R.remaining reader.old) (R.remaining reader.new) 2 (λ bytes. length ≡ size_of bytes)) }
+    ensures upper_bound { IfOk result (λ length. length.size ≤ 65535) }
 {
     let mut bytes = [0u8; 2];
-    let n = io::read_full(STDIN_FILENO, &mut bytes);
-    read_size(&bytes[..n])
+    let n = read_full(reader, &mut bytes)?;
+    Ok(read_size(&bytes[..n]))
 }
 
 // How many of n bytes are there. They come to the start of the buffer.
-fn read_body(buffer: &mut [u8], n: usize) -> usize
+fn read_body<R: Read>(reader: &mut R, buffer: &mut [u8], n: usize) -> io::Result<usize>
     requires { n ≤ length buffer.old }
+    ensures bytes { IfOk result (λ got. Takes (R.remaining reader.old) (R.remaining reader.new) n (λ bytes. take got buffer.new ≡ bytes)) }
+    ensures upper_bound { IfOk result (λ got. got ≤ n) }
 {
-    io::read_full(STDIN_FILENO, &mut buffer[..n])
+    read_full(reader, &mut buffer[..n])
 }
 
 // How many bytes follow the last attempt, of which one is enough to tell.
-fn read_more() -> usize {
+fn read_more<R: Read>(reader: &mut R) -> io::Result<usize>
+    ensures { IfOk result (λ more. Takes (R.remaining reader.old) (R.remaining reader.new) 1 (λ bytes. more ≡ length bytes)) }
+{
     let mut byte = [0u8; 1];
-    io::read_full(STDIN_FILENO, &mut byte)
+    read_full(reader, &mut byte)
 }
 
 // An attempt that is there whole is answered, and its line printed. Of any other nothing is printed, and the ledger is as it was.
-fn print_attempt(ledger: Ledger, run: Run, attempt: &[u8]) -> Ledger
-    ensures { view_ledger result ≡ cond run.broken (view_ledger ledger) (next_of (view_ledger ledger) attempt.now) }
+fn print_attempt<W: Write>(
+    writer: &mut W,
+    ledger: Ledger,
+    run: Run,
+    attempt: &[u8],
+) -> io::Result<Ledger>
+    ensures ledger { IfOk result (λ l. view_ledger l ≡ cond run.broken (view_ledger ledger) (next_of (view_ledger ledger) attempt.now)) }
+    ensures line { OnOk result (Appends (W.contents writer.old) (W.contents writer.new)
+        (cond run.broken [] (line_of (view_ledger ledger) (run.count - run.left) attempt.now))) }
 {
     if run.broken {
-        return ledger;
+        return Ok(ledger);
     }
     let mut out = [0u8; 32];
     let answered = answer_attempt(ledger, run.position(), attempt, &mut out);
-    let next = answered.ledger;
-    io::write_all(STDOUT_FILENO, &out[..answered.size]);
-    next
+    writer.write_all(&out[..answered.size])?;
+    Ok(answered.ledger)
 }
 
-fn print_last(broken: bool, registries: usize, credentials: usize) {
+fn print_last<W: Write>(
+    writer: &mut W,
+    broken: bool,
+    registries: usize,
+    credentials: usize,
+) -> io::Result<()>
+    ensures { OnOk result (Appends (W.contents writer.old) (W.contents writer.new) (cond broken broken_line (last_line registries credentials))) }
+{
     let mut out = [0u8; 80];
     let n = write_last(&mut out, broken, registries, credentials);
-    io::write_all(STDOUT_FILENO, &out[..n]);
+    writer.write_all(&out[..n])
 }
 
-fn main() {
-    let mut body = io::large_buffer();
+// What is printed is what the program has to print for the bytes of its input. A read or a write that fails ends the run there.
+fn answer_all<R: Read, W: Write>(reader: &mut R, writer: &mut W) -> io::Result<()>
+    ensures { OnOk result (IfSome (R.remaining reader.old) (λ input. Appends (W.contents writer.old) (W.contents writer.new) (output_of input))) }
+{
+    let mut body = [0u8; 65536];
     let mut ledger = Ledger::empty();
-    let mut run = read_count();
+    let mut run = read_count(reader)?;
     while run.wants() {
-        let length = read_length();
-        let got = read_body(&mut body, length.size);
+        let length = read_length(reader)?;
+        let got = read_body(reader, &mut body, length.size)?;
         run = run.took(length, got);
-        ledger = print_attempt(ledger, run, &body[..length.size]);
+        ledger = print_attempt(writer, ledger, run, &body[..length.size])?;
     }
-    let end = run.finish(read_more());
-    print_last(end.broken, ledger.registry_count, ledger.row_count);
+    let end = run.finish(read_more(reader)?);
+    print_last(writer, end.broken, ledger.registry_count, ledger.row_count)
+}
+
+fn main(rt: HostRuntime) -> io::Result<()> {
+    answer_all(&mut rt.stdin(), &mut rt.stdout())
 }

@@ -7,8 +7,10 @@ mod tally;
 ghost use Rattle.std.specs.Prelude.{◌≡◌, ◌+◌, ◌*◌, ◌≤◌, length};
 ghost use Rattle.decodes.specs.Judgement.{judge_of};
 
-use libc::{STDIN_FILENO, STDOUT_FILENO};
+use reading::read_full;
 use registry_wire::Attempt;
+use std::io;
+use std::io::Read;
 use tally::{Finding, Tally};
 
 #[derive(Clone, Copy)]
@@ -33,6 +35,7 @@ fn size(high: u8, low: u8) -> usize
     high as usize * 256 + low as usize
 }
 
+#[tactic(auto, unfolding(crate::specs::Judgement::judge_of))]
 fn judge(expected: u8, attempt: &[u8]) -> Finding
     ensures { result ≡ judge_of expected attempt.now }
 {
@@ -45,94 +48,86 @@ fn judge(expected: u8, attempt: &[u8]) -> Finding
 }
 
 // Whether n bytes are there. They come to the start of the buffer.
-fn read_body(buffer: &mut [u8], n: usize) -> bool
+fn read_body(reader: &mut impl Read, buffer: &mut [u8], n: usize) -> io::Result<bool>
     requires { n ≤ length buffer.old }
 {
-    io::read_full(STDIN_FILENO, &mut buffer[..n]) == n
+    Ok(read_full(reader, &mut buffer[..n])? == n)
 }
 
-fn next_record(buffer: &mut [u8]) -> Next
+fn next_record(reader: &mut impl Read, buffer: &mut [u8]) -> io::Result<Next>
     requires { 65535 ≤ length buffer.old }
 {
     let mut first = [0u8; 4];
-    let n = io::read_full(STDIN_FILENO, &mut first);
+    let n = read_full(reader, &mut first)?;
     if n == 0 {
-        return Next::End;
+        return Ok(Next::End);
     }
     if n < 4 {
-        return Next::Broken;
+        return Ok(Next::Broken);
     }
     let length = size(first[2], first[3]);
-    if !read_body(buffer, length) {
-        return Next::Broken;
+    if !read_body(reader, buffer, length)? {
+        return Ok(Next::Broken);
     }
     let finding = judge(first[0], &buffer[..length]);
-    Next::Attempt {
+    Ok(Next::Attempt {
         group: first[1],
         finding,
-    }
+    })
 }
 
 // A mark for each attempt, 64 in a line: M where it is malformed, else a dot.
-fn print_mark(malformed: bool, count: u64) {
-    if malformed {
-        io::write_all(STDOUT_FILENO, b"M");
-    } else {
-        io::write_all(STDOUT_FILENO, b".");
-    }
+fn print_mark(rt: &impl Print, malformed: bool, count: u64) -> io::Result<()> {
+    let mark = if malformed { "M" } else { "." };
+    print!(rt; "{mark}")?;
     if count % 64 == 0 {
-        io::write_all(STDOUT_FILENO, b"\n");
+        println!(rt)?;
     }
+    Ok(())
 }
 
-// A loop has to end, and nothing says that the input does. So it counts down, from a number that no run uses up.
-fn run() -> Outcome {
-    let mut buffer = io::large_buffer();
+// A loop has to end, and nothing says that the input does. So it has a number of turns that no run uses up.
+fn run(rt: &impl Print, reader: &mut impl Read) -> io::Result<Outcome> {
+    let mut buffer = [0u8; 65536];
     let mut tally = Tally::empty();
-    let mut turns = u64::MAX;
-    while turns > 0 {
-        turns -= 1;
-        match next_record(&mut buffer) {
+    for _ in 0..u64::MAX {
+        match next_record(reader, &mut buffer)? {
             Next::Attempt { group, finding } => {
                 tally = tally.counted(group, finding);
-                print_mark(finding.malformed, tally.total.attempts);
+                print_mark(rt, finding.malformed, tally.total.attempts)?;
             }
             Next::End => {
-                return Outcome {
+                return Ok(Outcome {
                     tally,
                     broken: false,
-                };
+                });
             }
-            Next::Broken => {
-                return Outcome {
-                    tally,
-                    broken: true,
-                };
-            }
+            Next::Broken => break,
         }
     }
-    Outcome {
+    Ok(Outcome {
         tally,
         broken: true,
-    }
+    })
 }
 
-fn main() {
-    let r = run();
+fn main(rt: HostRuntime) -> io::Result<()> {
+    let r = run(&rt, &mut rt.stdin())?;
     let t = r.tally;
-    io::write_all(STDOUT_FILENO, b"\n");
-    t.group(1).print(b"vectors");
-    t.group(2).print(b"cut");
-    t.group(3).print(b"long");
-    t.group(4).print(b"limits");
-    t.group(5).print(b"letters");
-    t.group(6).print(b"ranges");
+    println!(rt)?;
+    t.group(1).print(&rt, "vectors")?;
+    t.group(2).print(&rt, "cut")?;
+    t.group(3).print(&rt, "long")?;
+    t.group(4).print(&rt, "limits")?;
+    t.group(5).print(&rt, "letters")?;
+    t.group(6).print(&rt, "ranges")?;
     let other = t.group(0);
     if 0 < other.attempts {
-        other.print(b"other");
+        other.print(&rt, "other")?;
     }
-    t.total.print(b"total");
+    t.total.print(&rt, "total")?;
     if r.broken {
-        io::write_all(STDOUT_FILENO, b"broken\n");
+        println!(rt; "broken")?;
     }
+    Ok(())
 }

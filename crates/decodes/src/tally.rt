@@ -2,7 +2,7 @@
 ghost use Rattle.std.specs.Prelude.{◌≡◌, ◌≤◌};
 ghost use Rattle.decodes.specs.Counting.{plus_of, counted_of, no_count, no_tally, place_of, group_of, tallied_of};
 
-use libc::STDOUT_FILENO;
+use std::io;
 
 // What is found of an attempt.
 #[derive(Clone, Copy)]
@@ -27,6 +27,7 @@ pub struct Tally {
 }
 
 // One more where the test holds. A count at its end stays there.
+#[tactic(auto, unfolding(crate::specs::Counting::plus_of))]
 fn plus(count: u64, test: bool) -> u64
     ensures { result ≡ plus_of count test }
 {
@@ -37,6 +38,7 @@ fn plus(count: u64, test: bool) -> u64
     }
 }
 
+#[tactic(auto, unfolding(crate::specs::Counting::place_of))]
 fn place(group: u8) -> usize
     ensures value { result ≡ place_of group }
     ensures upper_bound { result ≤ 6 }
@@ -55,6 +57,7 @@ impl Count {
         }
     }
 
+    #[tactic(auto, unfolding(crate::specs::Counting::counted_of))]
     fn counted(self, f: Finding) -> Count
         ensures { result ≡ counted_of self f }
     {
@@ -66,19 +69,16 @@ impl Count {
     }
 
     // A line, as `cut: 3 attempts, 2 malformed, 3 agree`.
-    pub(crate) fn print(self, name: &[u8]) {
-        io::write_all(STDOUT_FILENO, name);
-        io::write_all(STDOUT_FILENO, b": ");
-        io::print_decimal(STDOUT_FILENO, self.attempts);
-        io::write_all(STDOUT_FILENO, b" attempts, ");
-        io::print_decimal(STDOUT_FILENO, self.malformed);
-        io::write_all(STDOUT_FILENO, b" malformed, ");
-        io::print_decimal(STDOUT_FILENO, self.agree);
-        io::write_all(STDOUT_FILENO, b" agree\n");
+    pub(crate) fn print(self, rt: &impl Print, name: &str) -> io::Result<()> {
+        println!(rt;
+            "{name}: {} attempts, {} malformed, {} agree",
+            self.attempts, self.malformed, self.agree
+        )
     }
 }
 
 impl Tally {
+    #[tactic(auto, unfolding(crate::specs::Counting::no_tally))]
     pub fn empty() -> Tally
         ensures { result ≡ no_tally }
     {
@@ -89,6 +89,7 @@ impl Tally {
     }
 
     // What was counted at a place, or nothing past the end.
+    #[tactic(auto, unfolding(crate::specs::Counting::group_of))]
     pub fn group(self, place: usize) -> Count
         ensures { result ≡ group_of self place }
     {
@@ -99,6 +100,7 @@ impl Tally {
         }
     }
 
+    #[tactic(auto, unfolding(crate::specs::Counting::tallied_of))]
     pub fn counted(self, group: u8, f: Finding) -> Tally
         ensures { result ≡ tallied_of self group f }
     {

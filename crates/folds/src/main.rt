@@ -14,7 +14,9 @@ ghost use Rattle.std.specs.Prelude.{◌≤◌, length};
 
 use folds_judge::Finding;
 use folds_judge::judge::{body_size, judge_record};
-use libc::{STDIN_FILENO, STDOUT_FILENO};
+use reading::read_full;
+use std::io;
+use std::io::Read;
 use tally::Tally;
 
 #[derive(Clone, Copy)]
@@ -36,46 +38,44 @@ struct Outcome {
 }
 
 // Whether n bytes are there. They come to the start of the buffer.
-fn read_body(buffer: &mut [u8], n: usize) -> bool
+fn read_body(reader: &mut impl Read, buffer: &mut [u8], n: usize) -> io::Result<bool>
     requires { n ≤ length buffer.old }
 {
-    io::read_full(STDIN_FILENO, &mut buffer[..n]) == n
+    Ok(read_full(reader, &mut buffer[..n])? == n)
 }
 
-fn next_record(buffer: &mut [u8]) -> Next
+fn next_record(reader: &mut impl Read, buffer: &mut [u8]) -> io::Result<Next>
     requires { 65536 ≤ length buffer.old }
 {
     let mut first = [0u8; 46];
-    let n = io::read_full(STDIN_FILENO, &mut first);
+    let n = read_full(reader, &mut first)?;
     if n == 0 {
-        return Next::End;
+        return Ok(Next::End);
     }
     if n < 46 {
-        return Next::Broken;
+        return Ok(Next::Broken);
     }
     let length = body_size(&first);
     if 65536 < length {
-        return Next::Broken;
+        return Ok(Next::Broken);
     }
-    if !read_body(buffer, length) {
-        return Next::Broken;
+    if !read_body(reader, buffer, length)? {
+        return Ok(Next::Broken);
     }
     let finding = judge_record(&first, &buffer[..length]);
-    Next::Case {
+    Ok(Next::Case {
         number: first[2],
         rust: first[1],
         finding,
-    }
+    })
 }
 
-// A loop has to end, and nothing says that the input does. So it counts down, from a number that no run uses up.
-fn run() -> Outcome {
-    let mut buffer = io::large_buffer();
+// A loop has to end, and nothing says that the input does. So it has a number of turns that no run uses up.
+fn run(reader: &mut impl Read) -> io::Result<Outcome> {
+    let mut buffer = [0u8; 65536];
     let mut tally = Tally::empty();
-    let mut turns = u64::MAX;
-    while turns > 0 {
-        turns -= 1;
-        match next_record(&mut buffer) {
+    for _ in 0..u64::MAX {
+        match next_record(reader, &mut buffer)? {
             Next::Case {
                 number,
                 rust,
@@ -84,63 +84,56 @@ fn run() -> Outcome {
                 tally = tally.counted(number, rust, finding);
             }
             Next::End => {
-                return Outcome {
+                return Ok(Outcome {
                     tally,
                     broken: false,
-                };
+                });
             }
-            Next::Broken => {
-                return Outcome {
-                    tally,
-                    broken: true,
-                };
-            }
+            Next::Broken => break,
         }
     }
-    Outcome {
+    Ok(Outcome {
         tally,
         broken: true,
-    }
+    })
 }
 
 // A line for a number that occurs, as `24: 3 cases, 3 agree`.
-fn print_number(t: Tally, number: usize) {
+fn print_number(rt: &impl Print, t: Tally, number: usize) -> io::Result<()> {
     let c = t.numbered(number);
     if 0 < c.cases {
-        io::print_decimal(STDOUT_FILENO, number as u64);
-        io::write_all(STDOUT_FILENO, b": ");
-        c.print();
+        print!(rt; "{number}: ")?;
+        c.print(rt)?;
     }
+    Ok(())
 }
 
-fn print_numbers(t: Tally) {
-    let mut number: usize = 0;
-    while number < 40 {
-        print_number(t, number);
-        number += 1;
+fn print_numbers(rt: &impl Print, t: Tally) -> io::Result<()> {
+    for number in 0..40 {
+        print_number(rt, t, number)?;
     }
+    Ok(())
 }
 
-fn print_line(name: &[u8], n: u64) {
-    io::write_all(STDOUT_FILENO, name);
-    io::print_decimal(STDOUT_FILENO, n);
-    io::write_all(STDOUT_FILENO, b"\n");
+fn print_line(rt: &impl Print, name: &str, n: u64) -> io::Result<()> {
+    println!(rt; "{name}: {n}")
 }
 
-fn main() {
-    let r = run();
+fn main(rt: HostRuntime) -> io::Result<()> {
+    let r = run(&mut rt.stdin())?;
     let t = r.tally;
-    print_numbers(t);
+    print_numbers(&rt, t)?;
     let other = t.numbered(40);
     if 0 < other.cases {
-        io::write_all(STDOUT_FILENO, b"other: ");
-        other.print();
+        print!(rt; "other: ")?;
+        other.print(&rt)?;
     }
-    io::write_all(STDOUT_FILENO, b"total: ");
-    t.total.print();
-    print_line(b"states that are not read: ", t.unread);
-    print_line(b"another number in the Rust: ", t.others);
+    print!(rt; "total: ")?;
+    t.total.print(&rt)?;
+    print_line(&rt, "states that are not read", t.unread)?;
+    print_line(&rt, "another number in the Rust", t.others)?;
     if r.broken {
-        io::write_all(STDOUT_FILENO, b"broken\n");
+        println!(rt; "broken")?;
     }
+    Ok(())
 }

@@ -3,7 +3,7 @@ ghost use Rattle.std.specs.Prelude.{◌≡◌, ◌≤◌};
 ghost use Rattle.folds.specs.Counting.{plus_of, counted_of, no_count, no_tally, place_of, numbered_of, tallied_of};
 
 use folds_judge::Finding;
-use libc::STDOUT_FILENO;
+use std::io;
 
 #[derive(Clone, Copy)]
 pub struct Count {
@@ -23,6 +23,7 @@ pub struct Tally {
 }
 
 // One more where the test holds. A count at its end stays there.
+#[tactic(auto, unfolding(crate::specs::Counting::plus_of))]
 fn plus(count: u64, test: bool) -> u64
     ensures { result ≡ plus_of count test }
 {
@@ -33,6 +34,7 @@ fn plus(count: u64, test: bool) -> u64
     }
 }
 
+#[tactic(auto, unfolding(crate::specs::Counting::place_of))]
 fn place(number: u8) -> usize
     ensures value { result ≡ place_of number }
     ensures upper_bound { result ≤ 40 }
@@ -47,6 +49,7 @@ impl Count {
         Count { cases: 0, agree: 0 }
     }
 
+    #[tactic(auto, unfolding(crate::specs::Counting::counted_of))]
     fn counted(self, agrees: bool) -> Count
         ensures { result ≡ counted_of self agrees }
     {
@@ -57,15 +60,13 @@ impl Count {
     }
 
     // The end of a line, as `3 cases, 3 agree`.
-    pub(crate) fn print(self) {
-        io::print_decimal(STDOUT_FILENO, self.cases);
-        io::write_all(STDOUT_FILENO, b" cases, ");
-        io::print_decimal(STDOUT_FILENO, self.agree);
-        io::write_all(STDOUT_FILENO, b" agree\n");
+    pub(crate) fn print(self, rt: &impl Print) -> io::Result<()> {
+        println!(rt; "{} cases, {} agree", self.cases, self.agree)
     }
 }
 
 impl Tally {
+    #[tactic(auto, unfolding(crate::specs::Counting::no_tally))]
     pub fn empty() -> Tally
         ensures { result ≡ no_tally }
     {
@@ -78,6 +79,7 @@ impl Tally {
     }
 
     // What was counted at a place, or nothing past the end.
+    #[tactic(auto, unfolding(crate::specs::Counting::numbered_of))]
     pub fn numbered(self, place: usize) -> Count
         ensures { result ≡ numbered_of self place }
     {
@@ -88,6 +90,7 @@ impl Tally {
         }
     }
 
+    #[tactic(auto, unfolding(crate::specs::Counting::tallied_of))]
     pub fn counted(self, number: u8, rust: u8, f: Finding) -> Tally
         ensures { result ≡ tallied_of self number rust f }
     {

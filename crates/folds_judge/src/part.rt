@@ -15,7 +15,7 @@ use registry_state_credential::CredentialState;
 pub(crate) fn same(a: &[u8], b: &[u8]) -> bool
     ensures { result ≡ same_list a.now b.now }
 {
-    check::same(a, b)
+    a == b
 }
 
 // Whether a record's 36 bytes are the report of an answer.

@@ -14,7 +14,9 @@ ghost use Rattle.std.specs.Prelude.{◌≡◌, ◌≤◌, length};
 use answer::{Facts, agrees, answer};
 use cesr_number::number::read_u16;
 use ledger_table::Ledger;
-use libc::{STDIN_FILENO, STDOUT_FILENO};
+use reading::read_full;
+use std::io;
+use std::io::Read;
 use tally::Tally;
 
 #[derive(Clone, Copy)]
@@ -40,26 +42,26 @@ fn image_length(first: &[u8]) -> usize
 }
 
 // Whether n bytes are there. They come to the start of the buffer.
-fn read_body(buffer: &mut [u8], n: usize) -> bool
+fn read_body(reader: &mut impl Read, buffer: &mut [u8], n: usize) -> io::Result<bool>
     requires { n ≤ length buffer.old }
 {
-    io::read_full(STDIN_FILENO, &mut buffer[..n]) == n
+    Ok(read_full(reader, &mut buffer[..n])? == n)
 }
 
-fn next_record(first: &mut [u8], buffer: &mut [u8]) -> Next
+fn next_record(reader: &mut impl Read, first: &mut [u8], buffer: &mut [u8]) -> io::Result<Next>
     requires { 65535 ≤ length buffer.old }
 {
-    let n = io::read_full(STDIN_FILENO, first);
+    let n = read_full(reader, first)?;
     if n == 0 {
-        return Next::End;
+        return Ok(Next::End);
     }
     if n < 80 {
-        return Next::Broken;
+        return Ok(Next::Broken);
     }
-    if !read_body(buffer, image_length(first)) {
-        return Next::Broken;
+    if !read_body(reader, buffer, image_length(first))? {
+        return Ok(Next::Broken);
     }
-    Next::Image
+    Ok(Next::Image)
 }
 
 // A buffer for images that must not be written. None starts with this byte, so that one that is written shows.
@@ -69,75 +71,64 @@ fn other_buffer() -> [u8; 65536]
     [255; 65536]
 }
 
-fn print_spaced(n: u64) {
-    io::write_all(STDOUT_FILENO, b" ");
-    io::print_decimal(STDOUT_FILENO, n);
+fn print_spaced(rt: &impl Print, n: u64) -> io::Result<()> {
+    print!(rt; " {n}")
 }
 
 // A line for an image, as `3 0 3 4 929 0 1`: its position from 1, the number, what is held, the length, and the look-up's answer.
-fn print_line(position: u64, f: Facts, agrees: bool) {
-    io::print_decimal(STDOUT_FILENO, position);
-    print_spaced(f.number as u64);
-    print_spaced(f.registries as u64);
-    print_spaced(f.rows as u64);
-    print_spaced(f.size as u64);
-    print_spaced(f.refusal as u64);
-    print_spaced(f.standing as u64);
+fn print_line(rt: &impl Print, position: u64, f: Facts, agrees: bool) -> io::Result<()> {
+    print!(rt; "{position}")?;
+    print_spaced(rt, f.number as u64)?;
+    print_spaced(rt, f.registries as u64)?;
+    print_spaced(rt, f.rows as u64)?;
+    print_spaced(rt, f.size as u64)?;
+    print_spaced(rt, f.refusal as u64)?;
+    print_spaced(rt, f.standing as u64)?;
     if !agrees {
-        io::write_all(STDOUT_FILENO, b" differs");
+        print!(rt; " differs")?;
     }
-    io::write_all(STDOUT_FILENO, b"\n");
+    println!(rt)
 }
 
-// A loop has to end, and nothing says that the input does. So it counts down, from a number that no run uses up.
-fn run() -> Outcome {
+// A loop has to end, and nothing says that the input does. So it has a number of turns that no run uses up.
+fn run(rt: &impl Print, reader: &mut impl Read) -> io::Result<Outcome> {
     let mut first = [0u8; 80];
-    let mut buffer = io::large_buffer();
-    let mut out = io::large_buffer();
+    let mut buffer = [0u8; 65536];
+    let mut out = [0u8; 65536];
     let mut other = other_buffer();
     let mut ledger = Ledger::empty();
     let mut tally = Tally::empty();
-    let mut turns = u64::MAX;
-    while turns > 0 {
-        turns -= 1;
-        match next_record(&mut first, &mut buffer) {
+    for _ in 0..u64::MAX {
+        match next_record(reader, &mut first, &mut buffer)? {
             Next::Image => {
                 let n = image_length(&first);
                 let a = answer(ledger, &first, &buffer[..n], &mut out, &mut other);
                 let agrees = agrees(a.facts, &first);
                 ledger = a.ledger;
                 tally = tally.counted(agrees);
-                print_line(tally.images, a.facts, agrees);
+                print_line(rt, tally.images, a.facts, agrees)?;
             }
             Next::End => {
-                return Outcome {
+                return Ok(Outcome {
                     tally,
                     broken: false,
-                };
+                });
             }
-            Next::Broken => {
-                return Outcome {
-                    tally,
-                    broken: true,
-                };
-            }
+            Next::Broken => break,
         }
     }
-    Outcome {
+    Ok(Outcome {
         tally,
         broken: true,
-    }
+    })
 }
 
-fn main() {
-    let r = run();
+fn main(rt: HostRuntime) -> io::Result<()> {
+    let r = run(&rt, &mut rt.stdin())?;
     let t = r.tally;
-    io::print_decimal(STDOUT_FILENO, t.images);
-    io::write_all(STDOUT_FILENO, b" images, ");
-    io::print_decimal(STDOUT_FILENO, t.agree);
-    io::write_all(STDOUT_FILENO, b" as expected");
+    print!(rt; "{} images, {} as expected", t.images, t.agree)?;
     if r.broken {
-        io::write_all(STDOUT_FILENO, b" broken");
+        print!(rt; " broken")?;
     }
-    io::write_all(STDOUT_FILENO, b"\n");
+    println!(rt)
 }

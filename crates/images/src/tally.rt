@@ -9,6 +9,7 @@ pub struct Tally {
 }
 
 // One more where the test holds. A count at its end stays there.
+#[tactic(auto, unfolding(crate::specs::Counting::plus_of))]
 fn plus(count: u64, test: bool) -> u64
     ensures { result ≡ plus_of count test }
 {
@@ -20,6 +21,7 @@ fn plus(count: u64, test: bool) -> u64
 }
 
 impl Tally {
+    #[tactic(auto, unfolding(crate::specs::Counting::no_tally))]
     pub fn empty() -> Tally
         ensures { result ≡ no_tally }
     {
@@ -29,6 +31,7 @@ impl Tally {
         }
     }
 
+    #[tactic(auto, unfolding(crate::specs::Counting::tallied_of))]
     pub fn counted(self, agrees: bool) -> Tally
         ensures { result ≡ tallied_of self agrees }
     {

@@ -9,7 +9,8 @@ ghost use Rattle.std.specs.Prelude.{◌≡◌};
 ghost use Rattle.thresholds.specs.Judgement.{judge_exact, same_toad, judge_ample, judge_of};
 
 use events_toad::{Toad, ToadResult};
-use libc::{STDIN_FILENO, STDOUT_FILENO};
+use reading::read_full;
+use std::io;
 use text::Decimal;
 
 // What is found of a line.
@@ -138,24 +139,19 @@ fn run(s: &[u8]) -> Tally {
     t
 }
 
-fn print_agree(name: &[u8], agree: u64, all: u64) {
-    io::write_all(STDOUT_FILENO, name);
-    io::print_decimal(STDOUT_FILENO, agree);
-    io::write_all(STDOUT_FILENO, b" of ");
-    io::print_decimal(STDOUT_FILENO, all);
-    io::write_all(STDOUT_FILENO, b" agree\n");
+fn print_agree(rt: &impl Print, name: &str, agree: u64, all: u64) -> io::Result<()> {
+    println!(rt; "{name}: {agree} of {all} agree")
 }
 
-fn main() {
-    let mut buffer = io::large_buffer();
-    let n = io::read_full(STDIN_FILENO, &mut buffer);
+fn main(rt: HostRuntime) -> io::Result<()> {
+    let mut buffer = [0u8; 65536];
+    let n = read_full(&mut rt.stdin(), &mut buffer)?;
     let t = run(&buffer[..n]);
-    print_agree(b"exact: ", t.exact_agree, t.exact);
-    print_agree(b"ample: ", t.ample_agree, t.ample);
-    io::write_all(STDOUT_FILENO, b"lines that are not read: ");
-    io::print_decimal(STDOUT_FILENO, t.unread);
-    io::write_all(STDOUT_FILENO, b"\n");
+    print_agree(&rt, "exact", t.exact_agree, t.exact)?;
+    print_agree(&rt, "ample", t.ample_agree, t.ample)?;
+    println!(rt; "lines that are not read: {}", t.unread)?;
     if n == 65536 {
-        io::write_all(STDOUT_FILENO, b"the input is too long\n");
+        println!(rt; "the input is too long")?;
     }
+    Ok(())
 }

@@ -13,7 +13,7 @@ pub struct Decimal {
 pub fn same(a: &[u8], b: &[u8]) -> bool
     ensures { result ≡ same_list a.now b.now }
 {
-    check::same(a, b)
+    a == b
 }
 
 // The first place of the byte, or the length where it is nowhere.

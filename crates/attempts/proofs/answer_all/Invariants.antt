@@ -1,0 +1,12 @@
+-- What was printed, and what is to be printed of the rest of the input, is what the program prints of all of it.
+use Rattle.std.proofs.Common.{◌≡◌, IfSome, length}
+use Rattle.attempts.specs.Answering.{view_ledger, answering, output_of}
+use Rattle.attempts.proofs.Turns.{Going}
+use Rattle.attempts.proofs.answer_all.Given as goal
+
+abbrev pub invariant-loop-body : goal.invariant-loop-body
+invariant-loop-body g l =
+    record { room : length l.body ≡ 65536; going : IfSome (g.R.Read.remaining l.fn.reader) (λ s. Going answering (g.R.Read.remaining l.reader) (g.W.Write.contents l.fn.writer) (g.W.Write.contents l.writer) l.run (view_ledger l.ledger) (output_of s)) }
+
+abbrev pub decreases-loop-body : goal.decreases-loop-body
+decreases-loop-body g l = l.run.left

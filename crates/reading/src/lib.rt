@@ -1,0 +1,89 @@
+//! Reads as much as there is room for, from an input that may come in pieces.
+#![tactic(auto)]
+
+ghost use Rattle.std.specs.Prelude.{◌≡◌, ◌≤◌, ℕ, take, length, IfOk, OnErr};
+ghost use Rattle.std.specs.Io.KnownBytes.{Consumes};
+ghost use Rattle.reading.specs.Fronts.{Takes};
+
+use std::io;
+use std::io::Read;
+
+/// Reads until the buffer is full or the input ends, and returns how many bytes came. They stand at the buffer's start.
+/// One read is not enough, since an input may give its bytes in pieces of any length. A read that fails is the last one; the bytes that
+/// came before it stand in the buffer, and none was skipped.
+pub fn read_full<R: Read>(reader: &mut R, buf: &mut [u8]) -> io::Result<usize>
+    ensures bound { IfOk result (λ n. n ≤ length buf.new) }
+    ensures front { IfOk result (λ n. Takes (R.remaining reader.old) (R.remaining reader.new) (length buf.new) (λ front. take n buf.new ≡ front)) }
+    ensures err { OnErr result ((n : ℕ) × Consumes (R.remaining reader.old) (R.remaining reader.new) (take n buf.new)) }
+{
+    let mut done = 0;
+    while done < buf.len() {
+        let n = reader.read(&mut buf[done..])?;
+        if n == 0 {
+            break;
+        }
+        done += n;
+    }
+    Ok(done)
+}
+
+#[cfg(test)]
+mod tests {
+    use super::*;
+    use std::io::ErrorKind;
+    use std::test::Fail;
+
+    // Gives its bytes one at a time, and at the end fails or says that nothing is left.
+    #[derive(Drop)]
+    struct Pieces<'a> {
+        left: &'a [u8],
+        fails: bool,
+    }
+
+    impl<'a> Read for Pieces<'a> {
+        fn read(&mut self, buf: &mut [u8]) -> io::Result<usize> {
+            if buf.is_empty() {
+                return Ok(0);
+            }
+            match self.left.split_first() {
+                Some((first, rest)) => {
+                    buf[0] = *first;
+                    self.left = rest;
+                    Ok(1)
+                }
+                None if self.fails => Err(ErrorKind::ConnectionReset.into()),
+                None => Ok(0),
+            }
+        }
+    }
+
+    #[test]
+    fn joins_pieces(rt: HostRuntime) -> Result<(), Fail> {
+        let mut reader = Pieces {
+            left: b"abcdef",
+            fails: false,
+        };
+        let mut buf = [b'.'; 4];
+        assert_eq!(rt; read_full(&mut reader, &mut buf)?, 4);
+        assert_eq!(rt; buf, *b"abcd");
+        assert_eq!(rt; read_full(&mut reader, &mut buf)?, 2);
+        assert_eq!(rt; buf, *b"efcd");
+        assert_eq!(rt; read_full(&mut reader, &mut buf)?, 0);
+        Ok(())
+    }
+
+    #[test]
+    fn hands_on_a_failure(rt: HostRuntime) -> Result<(), Fail> {
+        let mut reader = Pieces {
+            left: b"abcdef",
+            fails: true,
+        };
+        let mut buf = [b'.'; 4];
+        assert_eq!(rt; read_full(&mut reader, &mut buf)?, 4);
+        match read_full(&mut reader, &mut buf) {
+            Ok(_) => assert!(rt; false, "a failed read is no end"),
+            Err(e) => assert_eq!(rt; e.kind(), ErrorKind::ConnectionReset),
+        }
+        Ok(())
+    }
+}
