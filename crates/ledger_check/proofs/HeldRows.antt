@@ -1,13 +1,12 @@
 -- How a loop finds that the registry of every row is held, one row at a time.
---     held_at                              whether the registry of row i is found
---     Facts                               what holds where t rows are left: the registries of those that were passed are held
---     at-start, at-good, at-bad, at-end   it holds before the first turn, a turn keeps it, and what the loop answers is what the rule says
-use Prim.Native.Nat.{ℕ, zero, suc, ◌-◌, ◌<◌, ◌≤◌, min}
-use mathlib.Core.Path.{◌≡◌, refl, sym, ap, ◌∙◌}
+--     held_at          whether the registry of row i is found
+--     held_so          what the loop learns of row i is that
+--     at-bad, at-end   what the loop answers is what the rule says
+use Prim.Native.Nat.{ℕ, ◌<◌, min}
+use mathlib.Core.Path.{◌≡◌, sym, ap, ◌∙◌}
 use mathlib.Core.Bool.{Bool, true, false}
 use mathlib.Core.List.{List, map}
 use native.Mathlib.Omega.{arith}
-use native.Mathlib.Decide.{dec_lt}
 use lib.Dec.{ltb}
 use lib.ListN.{length, length-map, length-take, get_or, take}
 use lib.Seq.{get_or-take}
@@ -17,7 +16,7 @@ use Rattle.registry_state_credential.specs.CredentialStates.{no_credential}
 use Rattle.registry_state.specs.declared.RegistryState.{RegistryState}
 use Rattle.registry_state_credential.specs.declared.CredentialState.{CredentialState}
 use Rattle.registry_state.proofs.StateLoops.{all_pass, all-fail}
-use Rattle.ledger_step.specs.Ledgers.{Held, held_of, id_of, has_registry}
+use Rattle.ledger_step.specs.Ledgers.{held_of, id_of, has_registry}
 use Rattle.ledger_step.proofs.PlaceLaws.{has-place}
 use Rattle.ledger_registries.specs.Registries.{no_held, find_registry}
 use Rattle.ledger_check.specs.RowsHeld.{rows_held}
@@ -45,23 +44,16 @@ module _ (gs : List RegistryState) (m : ℕ) (ws : List CredentialState) (n : �
   seen : (i : ℕ) → i < size → has_registry ids (get_or (take n ws) i no_credential) ≡ held_at i
   seen i h = ap (has_registry ids) (get_or-take n ws i no_credential (omega (arith, h))) ∙ held-is (get_or ws i no_credential)
 
-  abbrev pub Facts : ℕ → Type 0
-  Facts t = (t ≤ size) × ((k : ℕ) → k < size - t → held_at k ≡ true)
+  -- what the loop learns of row i
+  pub held_so : (i at : ℕ) (b : Bool) → at ≡ find_registry gs m (get_or ws i no_credential).registry → b ≡ ltb at (min m (length gs)) → b ≡ held_at i
+  held_so i at b f e = e ∙ ap (λ (k : ℕ). ltb k (min m (length gs))) f
 
-  pub at-start : Facts size
-  at-start = (omega arith, λ k h. absurd (omega (arith, h)))
-
-  pub at-good : (t : ℕ) → Facts (suc t) → held_at (size - suc t) ≡ true → Facts t
-  at-good t f e =
-      (omega (arith, f.0), λ k h. elim (dec_lt k (size - suc t)) [ yes p ↦ f.1 k p | no p ↦ let q : k ≡ size - suc t = omega (arith, f.0, h, p) in ap held_at q ∙ e ])
-
-  pub at-end : Facts 0 → true ≡ rows_held gs m ws n
+  pub at-end : ((i : ℕ) → i < size → held_at i ≡ true) → true ≡ rows_held gs m ws n
   unfolding rows_held
   at-end f =
-      sym (all_pass (has_registry ids) no_credential (take n ws) (λ i h. let b : i < size = omega (arith, h, length-take n ws) in seen i b ∙ f.1 i (omega (arith, b))))
+      sym (all_pass (has_registry ids) no_credential (take n ws) (λ i h. let b : i < size = omega (arith, h, length-take n ws) in seen i b ∙ f i b))
 
-  pub at-bad : (t : ℕ) → Facts (suc t) → held_at (size - suc t) ≡ false → false ≡ rows_held gs m ws n
+  pub at-bad : (i : ℕ) → i < size → held_at i ≡ false → false ≡ rows_held gs m ws n
   unfolding rows_held
-  at-bad t f e =
-      let b : size - suc t < size = omega (arith, f.0) in
-      sym (all-fail (has_registry ids) no_credential (take n ws) (size - suc t) (omega (arith, b, length-take n ws)) (seen (size - suc t) b ∙ e))
+  at-bad i h e =
+      sym (all-fail (has_registry ids) no_credential (take n ws) i (omega (arith, h, length-take n ws)) (seen i h ∙ e))

@@ -1,12 +1,14 @@
 -- How a loop finds that registries are sound, one registry at a time: the laws of `TableChecks`, by the registries that are lent.
---     Facts                               what holds where t registries are left of n: those that were passed are sound
---     at-start, at-good, at-bad, at-end   it holds before the first turn, a turn keeps it, and what the loop answers is what the rules say
+--     Kept                                what holds where the loop has come to registry i: those before it are sound
+--     at-start, at-good, at-bad, at-end   it holds at the first registry, a turn keeps it, and what the loop answers is what the rules say
+--     asked_so                            what a turn asks of its registry
 --     enough, wrong_size                  what the test of the sizes says
-use Prim.Native.Nat.{ℕ, suc, ◌-◌, ◌<◌, ◌≤◌}
+use Prim.Native.Nat.{ℕ, ◌+◌, ◌<◌, ◌≤◌}
 use mathlib.Core.Path.{◌≡◌, sym, ap, ◌∙◌}
 use mathlib.Core.Bool.{Bool, true, false, ◌&&◌}
 use mathlib.Core.List.{List, map}
 use native.Mathlib.Omega.{arith}
+use native.Mathlib.Numerals.{add-one}
 use lib.Dec.{eqb, leb}
 use lib.ListN.{length, length-map, get_or, take}
 use Rattle.cesr.specs.Primitives.{eq_said}
@@ -48,15 +50,19 @@ module _ (gs : List RegistryState) where
   asked i h =
       rw (take-held i gs) (ap (λ (g : Held). (keeps_layout g && keeps_rules g) && leb i (place id_of eq_said no_held (id_of g) (map held_of (take i gs)))) (sym (read-there gs i h).0))
 
-  abbrev pub Facts : ℕ → ℕ → Type 0
-  Facts n t = C.Kept id_of eq_said no_held keeps_layout keeps_rules 16 said-test held n t
+  -- what a turn asks of its registry
+  pub asked_so : (i found : ℕ) → found ≡ find_registry gs i (get_or gs i blank).id → ((well_registry (get_or gs i blank) && sound_registry (view_registry (get_or gs i blank))) && leb i found) ≡ passes_at i
+  asked_so i found f = rw f
 
-  pub at-start : (n : ℕ) → Facts n n
-  at-start n = C.at-start id_of eq_said no_held keeps_layout keeps_rules 16 said-test held n
+  abbrev pub Kept : ℕ → Type 0
+  Kept i = C.Kept id_of eq_said no_held keeps_layout keeps_rules 16 said-test held i
 
-  pub at-good : (n t : ℕ) → n ≤ length gs → Facts n (suc t) → passes_at (n - suc t) ≡ true → Facts n t
-  at-good n t h f p =
-      C.at-good id_of eq_said no_held keeps_layout keeps_rules 16 said-test held n t (omega (arith, length-map gs held_of)) f (asked (n - suc t) (omega (arith, f.0)) ∙ p)
+  pub at-start : Kept 0
+  at-start = C.at-start id_of eq_said no_held keeps_layout keeps_rules 16 said-test held
+
+  pub at-good : (i : ℕ) → i < length gs → Kept i → passes_at i ≡ true → Kept (i + 1)
+  at-good i h f p =
+      rw add-one (C.at-good id_of eq_said no_held keeps_layout keeps_rules 16 said-test held i (omega (arith, length-map gs held_of)) f (asked i h ∙ p))
 
   pub enough : (n : ℕ) → sized (length gs) n ≡ true → n ≤ length gs
   enough n e =
@@ -66,10 +72,10 @@ module _ (gs : List RegistryState) where
   pub wrong_size : (n : ℕ) → sized (length gs) n ≡ false → false ≡ answer n
   wrong_size n e = C.wrong_size id_of eq_said no_held keeps_layout keeps_rules 16 said-test held n (as-held n false e) ∙ answered n
 
-  pub at-end : (n : ℕ) → sized (length gs) n ≡ true → Facts n 0 → true ≡ answer n
+  pub at-end : (n : ℕ) → sized (length gs) n ≡ true → Kept n → true ≡ answer n
   at-end n e f = C.at-end id_of eq_said no_held keeps_layout keeps_rules 16 said-test held n (as-held n true e) f ∙ answered n
 
-  pub at-bad : (n t : ℕ) → sized (length gs) n ≡ true → Facts n (suc t) → passes_at (n - suc t) ≡ false → false ≡ answer n
-  at-bad n t e f p =
+  pub at-bad : (n i : ℕ) → sized (length gs) n ≡ true → i < n → passes_at i ≡ false → false ≡ answer n
+  at-bad n i e h p =
       let l = enough n e in
-      C.at-bad id_of eq_said no_held keeps_layout keeps_rules 16 said-test held n t (as-held n true e) f (asked (n - suc t) (omega (arith, f.0, l)) ∙ p) ∙ answered n
+      C.at-bad id_of eq_said no_held keeps_layout keeps_rules 16 said-test held n i (as-held n true e) h (asked i (omega (arith, h, l)) ∙ p) ∙ answered n

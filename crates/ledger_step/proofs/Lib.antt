@@ -15,5 +15,4 @@ pub mod SoundParts
 pub mod StepSound
 pub mod TableChecks
 pub mod TableLaws
-pub mod Turns
 pub mod TwoOrders

@@ -1,10 +1,10 @@
 -- How a loop checks a table that is lent, one element at a time, for any element: the rules of registries and of rows have one shape. An element passes
 -- where two tests hold of it and its key is found at no place before it.
 --     kept                                the rules, once the sizes are right
---     Kept                                what holds where t elements are left of n: the elements passed keep to them
---     at-start, at-good, at-bad, at-end   it holds before the first turn, a turn keeps it, and what the loop answers is what the rules say
+--     Kept                                what holds where the loop has come to element i: those before it keep to them
+--     at-start, at-good, at-bad, at-end   it holds at the first element, a turn keeps it, and what the loop answers is what the rules say
 --     enough, wrong_size                  what the test of the sizes says
-use Prim.Native.Nat.{ℕ, zero, suc, ◌-◌, ◌<◌, ◌≤◌}
+use Prim.Native.Nat.{ℕ, zero, suc, ◌<◌, ◌≤◌}
 use mathlib.Core.Path.{◌≡◌, refl, sym, ap, ◌∙◌}
 use mathlib.Core.Bool.{Bool, true, false, ◌&&◌}
 use mathlib.Core.List.{List, [], ◌∷◌, map}
@@ -69,17 +69,15 @@ module _ {X K : Type 0} (key : X → K) (eq : K → K → Bool) (blank : X) (p q
         rw (a, c, distinct-step key eq blank test l i h)
         (exchanged (all p (take i l)) (distinct eq (map key (take i l))) (all q (take i l)) (p x) (q x) (leb i (place key eq blank (key x) (take i l))))
 
-    -- ---- the loop's invariant, where t elements are left of n
-    abbrev pub Kept : ℕ → ℕ → Type 0
-    Kept n t = (t ≤ n) × (kept (take (n - t) l) ≡ true)
+    -- ---- the loop's invariant, at element i
+    abbrev pub Kept : ℕ → Type 0
+    Kept i = kept (take i l) ≡ true
 
-    pub at-start : (n : ℕ) → Kept n n
-    at-start n = let e : n - n ≡ 0 = omega arith in (omega arith, ap (λ (m : ℕ). kept (take m l)) e ∙ kept-none)
+    pub at-start : Kept 0
+    at-start = kept-none
 
-    pub at-good : (n t : ℕ) → n ≤ length l → Kept n (suc t) → passes_at (n - suc t) ≡ true → Kept n t
-    at-good n t h f e =
-        let m : n - t ≡ suc (n - suc t) = omega (arith, f.0) in
-        (omega (arith, f.0), ap (λ (m : ℕ). kept (take m l)) m ∙ (kept_step (n - suc t) (omega (arith, f.0)) ∙ rw (f.1, e)))
+    pub at-good : (i : ℕ) → i < length l → Kept i → passes_at i ≡ true → Kept (suc i)
+    at-good i h f e = kept_step i h ∙ rw (f, e)
 
     fails-later : (i n : ℕ) → i ≤ n → n ≤ length l → kept (take i l) ≡ false → kept (take n l) ≡ false
     fails-later i zero m h e = let z : i ≡ 0 = omega arith in ap (λ (k : ℕ). kept (take k l)) (sym z) ∙ e
@@ -108,11 +106,10 @@ module _ {X K : Type 0} (key : X → K) (eq : K → K → Bool) (blank : X) (p q
         go false b c h = refl
         go true b c h = sym (left-no c h)
 
-    pub at-end : (n : ℕ) → (eqb (length l) size && leb n size) ≡ true → Kept n 0 → true ≡ holds (checks (length l) n (take n l))
-    at-end n e f = let z : n - 0 ≡ n = omega arith in sym (sized n e ∙ (ap (λ (m : ℕ). kept (take m l)) (sym z) ∙ f.1))
+    pub at-end : (n : ℕ) → (eqb (length l) size && leb n size) ≡ true → Kept n → true ≡ holds (checks (length l) n (take n l))
+    at-end n e f = sym (sized n e ∙ f)
 
-    pub at-bad : (n t : ℕ) → (eqb (length l) size && leb n size) ≡ true → Kept n (suc t) → passes_at (n - suc t) ≡ false → false ≡ holds (checks (length l) n (take n l))
-    at-bad n t e f b =
-        let h = enough n e in
-        let i : n - suc t < length l = omega (arith, f.0, h) in
-        sym (sized n e ∙ fails-later (suc (n - suc t)) n (omega (arith, f.0)) h (kept_step (n - suc t) i ∙ right-no (kept (take (n - suc t) l)) b))
+    pub at-bad : (n i : ℕ) → (eqb (length l) size && leb n size) ≡ true → i < n → passes_at i ≡ false → false ≡ holds (checks (length l) n (take n l))
+    at-bad n i e h b =
+        let m = enough n e in
+        sym (sized n e ∙ fails-later (suc i) n (omega arith) m (kept_step i (omega (arith, m)) ∙ right-no (kept (take i l)) b))
