@@ -9,6 +9,8 @@ use ledger_table::Ledger;
 pub fn empty(ledger: &mut Ledger)
     ensures { view_ledger ledger.new ≡ ledger_of [] [] }
 {
+    // Not used: a body that only stores tells the check nothing of how long the arrays are.
+    let _places = ledger.registries.len() + ledger.rows.len();
     ledger.registry_count = 0;
     ledger.row_count = 0;
 }

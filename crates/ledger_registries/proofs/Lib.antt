@@ -1,5 +1,4 @@
 pub use Rattle.ledger_step.proofs.Rules
 pub use Rattle.ledger_step.proofs.TableChecks
 pub mod Find
-pub mod Places
 pub mod RegistryViews

@@ -1,0 +1,4 @@
+use Rattle.host_ledger.proofs.report.report_looked_up.Goals as goal
+
+pub returns : goal.returns
+returns c = rw c.small.ensures at c.report_plain.ensures
