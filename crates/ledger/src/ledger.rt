@@ -16,8 +16,8 @@ use ledger_lookup::lookup::look_up as look_up_lent;
 use ledger_read::read::read_image as read_lent;
 use ledger_standing::LookedUp;
 use ledger_table::Ledger;
-use ledger_write::write::write_image as write_lent;
 use ledger_write::Written;
+use ledger_write::write::write_image as write_lent;
 
 // One attempt. After a refusal the ledger is the one that was handed in, whatever stands in its arrays.
 pub fn apply(held: Ledger, attempt: &[u8]) -> LedgerApplied
