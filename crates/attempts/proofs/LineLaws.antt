@@ -1,8 +1,9 @@
 -- The line of an attempt, and the end of the run.
 --     line-is        number and letter of the answer are those of the ledger's step
 --     took-less      a run that wants an attempt has fewer to come once one was read
+--     last-counted   the counts of the last line are the ledger's
 use Prim.Native.Nat.{ℕ, ◌-◌, ◌<◌}
-use mathlib.Core.Path.{◌≡◌, ap, ◌∙◌}
+use mathlib.Core.Path.{◌≡◌, refl, ap, ◌∙◌}
 use mathlib.Core.Bool.{Bool, true, false, cond, ◌&&◌}
 use mathlib.Core.List.{List}
 use native.Mathlib.Omega.{arith}
@@ -10,9 +11,11 @@ use borrow.Author.Tests.{ltb-true}
 use lib.Dec.{ltb, leb}
 use Rattle.registry_error.specs.Errors.{answer_number, answer_letter}
 use Rattle.registry_error.specs.declared.Answer.{Answer}
-use Rattle.ledger_step.specs.Ledgers.{Ledger}
+use Rattle.ledger_step.specs.Ledgers.{Ledger, lent_ledger}
 use Rattle.ledger_step.specs.Steps.{step_of}
-use Rattle.ledger_text.specs.Lines.{line_bytes}
+use Rattle.ledger_table.specs.declared.Ledger as Value
+use Rattle.ledger_table.specs.Tables.{view_ledger}
+use Rattle.ledger_text.specs.Lines.{line_bytes, last_line}
 use Rattle.ledger_frames.specs.Runs.{took_of}
 use Rattle.ledger_frames.specs.declared.Run.{Run}
 use Rattle.ledger_frames.specs.declared.Size.{Size}
@@ -28,3 +31,7 @@ took-less r z got h = go ((ltb 0 r.left && z.ok) && leb z.size got)
     go : (b : Bool) → (cond {A = Run} b (record { count = r.count; left = r.left - 1; broken = r.broken }) (record { count = r.count; left = 0; broken = true })).left < r.left
     go true = omega (arith, ltb-true 0 r.left h)
     go false = omega (arith, ltb-true 0 r.left h)
+
+pub last-counted : (t : Value.Ledger) → last_line t.registry_count t.row_count ≡ last_line (view_ledger t).registry_count (view_ledger t).row_count
+unfolding view_ledger lent_ledger
+last-counted t = refl

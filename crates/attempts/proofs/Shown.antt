@@ -1,7 +1,7 @@
 -- What is printed from a buffer that a line was written to.
 --     shown          the bytes that the writer counts are the line, where it fits
 --     last-fits      the last line fits in 80 bytes
-use Rattle.std.proofs.Common.{◌≡◌, ℕ, ◌+◌, ◌^◌, ◌<◌, ◌≤◌, List, ◌++◌, Bool, true, false, cond, length, take, drop, refl, sym, ap, ◌∙◌, arith}
+use Rattle.std.proofs.Common.{◌≡◌, ℕ, ◌+◌, ◌^◌, ◌<◌, ◌≤◌, List, ◌++◌, Bool, true, false, cond, length, take, drop, refl, arith}
 use Rattle.std.proofs.Math.Seq.{sets, sets-eq, take-append_seam}
 use Rattle.laws.specs.Room.{put}
 use Rattle.laws.proofs.Room.{put-sets, true-room}

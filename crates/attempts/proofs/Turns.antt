@@ -2,9 +2,9 @@
 --     starts     after the count was read, all that there is to print is still to come
 --     goes-on    a turn prints what it has to
 --     ends       behind the last turn stands the last line
-use Rattle.std.proofs.Common.{◌≡◌, ℕ, zero, suc, ◌+◌, ◌-◌, ◌<◌, ◌≤◌, List, [], ◌∷◌, ◌++◌, Bool, true, false, cond, ◌&&◌, None, Some, IfSome, Result, Ok, Err, OnOk, length, take, drop, refl, sym, ap, ◌∙◌, subst, arith, rules, append_assoc, append-nil, length-take-le}
+use Rattle.std.proofs.Common.{◌≡◌, ℕ, zero, suc, ◌+◌, ◌-◌, ◌≤◌, List, [], ◌++◌, Bool, true, false, cond, ◌&&◌, Some, length, take, drop, refl, sym, ap, ◌∙◌, arith, append_assoc, length-take-le}
 use Rattle.std.proofs.Math.Dec.{ltb, leb}
-use Rattle.std.proofs.lemmas.Bool.{ltb-true, ltb-false, leb-true}
+use Rattle.std.proofs.lemmas.Bool.{ltb-true, leb-true}
 use Rattle.std.proofs.lemmas.List.{drop-drop}
 use Rattle.std.proofs.KnownBytes.{Appends-nil, Appends-trans}
 use Rattle.std.specs.Io.KnownBytes.{Appends}
@@ -15,7 +15,7 @@ use Rattle.reading.specs.Fronts.{Takes}
 use Rattle.ledger_text.specs.Lines.{line_bytes, last_line, broken_line}
 use Rattle.ledger_frames.specs.declared.Run.{Run}
 use Rattle.ledger_frames.specs.declared.Size.{Size}
-use Rattle.ledger_frames.specs.Runs.{Outcome, size_of, start_of, took_of, finish_of, taking, ending, turns_of, run_of}
+use Rattle.ledger_frames.specs.Runs.{Outcome, size_of, start_of, took_of, finish_of, taking, turns_of, run_of}
 use Rattle.ledger_frames.specs.Printed.{Answering, taken_lines, after_taken, run_prints, printed_of}
 use Rattle.ledger_frames.proofs.RunLaws.{run-printed}
 

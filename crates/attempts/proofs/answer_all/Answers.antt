@@ -2,9 +2,9 @@ use Rattle.std.proofs.Common.{◌∙◌, sym, refl, [], arith, rules}
 use Rattle.attempts.specs.Answering.{answering}
 use Rattle.std.proofs.lemmas.Option.{IfSome_then}
 use Rattle.std.proofs.lemmas.Result.{on_ok_weaker}
-use Rattle.ledger_table.specs.Tables.{view_ledger}
 use Rattle.ledger_image.specs.Images.{ledger_of}
-use Rattle.attempts.proofs.LineLaws.{took-less}
+use Rattle.ledger_table.specs.Tables.{view_ledger}
+use Rattle.attempts.proofs.LineLaws.{took-less, last-counted}
 use Rattle.attempts.proofs.Turns.{starts, goes-on, ends}
 use Rattle.attempts.proofs.answer_all.Goals as goal
 
@@ -29,8 +29,8 @@ loop-body-preserved g c =
     }
 
 pub returns : goal.returns
-unfolding view_ledger
 returns g c =
+    let l = c.loop-body.ledger in
     on_ok_weaker c.print_last.result
-    (λ p. IfSome_then _ c.loop-body.invariant.going (λ s t. ends answering _ _ _ _ _ _ _ _ _ t (sym c.wants.ensures ∙ c.loop-body-test.false) c.in_ok-read_more.ensures (rw c.finish-end.ensures at p)))
+    (λ p. IfSome_then _ c.loop-body.invariant.going (λ s t. ends answering _ _ _ _ _ _ (view_ledger l) _ _ t (sym c.wants.ensures ∙ c.loop-body-test.false) c.in_ok-read_more.ensures (rw (c.finish-end.ensures, last-counted l) at p)))
     c.print_last.ensures

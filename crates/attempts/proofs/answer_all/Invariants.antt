@@ -1,6 +1,7 @@
 -- What was printed, and what is to be printed of the rest of the input, is what the program prints of all of it.
 use Rattle.std.proofs.Common.{◌≡◌, IfSome, length}
-use Rattle.attempts.specs.Answering.{view_ledger, answering, output_of}
+use Rattle.ledger_table.specs.Tables.{view_ledger}
+use Rattle.attempts.specs.Answering.{answering, output_of}
 use Rattle.attempts.proofs.Turns.{Going}
 use Rattle.attempts.proofs.answer_all.Given as goal
 
