@@ -2,7 +2,7 @@
 --     ReadInto        the clauses that it ensures
 --     read-ledger     where the number is 0 it is the ledger of the image
 --     read-refused    where it is not, the one that was handed in
---     read-back       the image of a sound ledger is read as that ledger
+--     read_back       the image of a sound ledger is read as that ledger
 --     read_again      an image that was read writes again to the same bytes
 use Prim.Native.Nat.{ℕ, ◌+◌, ◌≤◌}
 use native.Mathlib.Omega.{arith}
