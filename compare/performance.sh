@@ -7,7 +7,7 @@ tables=$(mktemp)
 trap 'rm -f "$tables" "$tables.page"' EXIT
 cpu=$(sed -n 's/^model name[^:]*: //p' /proc/cpuinfo | head -n 1)
 {
-    echo "Machine: $cpu, $(nproc) processors, $(uname -s) $(uname -m); $(rustc --version). Load when it began: $(cut -d ' ' -f 1 /proc/loadavg)."
+    echo "Machine: $cpu, $(nproc) processors, $(uname -s) $(uname -m); $(rustc --version). Load when it began: $(cut -d ' ' -f 1 /proc/loadavg). Library made with $(rt version)."
     echo
     target/release/bench "$@"
 } >"$tables"
