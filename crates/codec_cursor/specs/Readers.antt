@@ -9,12 +9,7 @@ use Rattle.cesr.specs.declared.Matter.{Matter}
 use Rattle.cesr.specs.declared.Said.{Said}
 use Rattle.cesr.specs.declared.BasicPrefix.{BasicPrefix}
 use Rattle.codec_cursor.specs.declared.Cursor.{Cursor}
-use Rattle.codec_cursor.specs.declared.ByteRead.{ByteRead}
-use Rattle.codec_cursor.specs.declared.U32Read.{U32Read}
-use Rattle.codec_cursor.specs.declared.SnRead.{SnRead}
-use Rattle.codec_cursor.specs.declared.SaidRead.{SaidRead}
-use Rattle.codec_cursor.specs.declared.PrefixRead.{PrefixRead}
-use Rattle.codec_cursor.specs.declared.MatterRead.{MatterRead}
+pub use Rattle.codec_cursor.specs.declared.Read.{Read}
 
 -- at the first byte
 abbrev pub starting : Cursor
@@ -35,11 +30,6 @@ advanced s c n = cond (c.ok && room s c.at n) (record { ok = true; at = c.at + n
 -- stopped where the test fails
 unfoldable pub need : Cursor → Bool → Cursor
 need c t = cond t c stopped
-
--- what reading gives: a value, and the cursor behind it
-pub record Read (A : Type 0) : Type 0 where
-  pub value : A
-  pub next : Cursor
 
 abbrev pub Reader : Type 0 → Type 0
 Reader A = List ℕ → Cursor → Read A
@@ -120,22 +110,3 @@ count_up_to limit s c =
 -- a section: a count byte, at most limit, then that many elements
 unfoldable pub section : {A : Type 0} → ℕ → Reader A → Reader (List A)
 section limit p s c = let n = count_up_to limit s c in times n.value p s n.next
-
--- what the structs of the code stand for
-abbrev pub view_byte : ByteRead → Read ℕ
-view_byte r = record { value = r.value; next = r.next }
-
-abbrev pub view_u32 : U32Read → Read ℕ
-view_u32 r = record { value = r.value; next = r.next }
-
-abbrev pub view_sn : SnRead → Read Sn
-view_sn r = record { value = r.value; next = r.next }
-
-abbrev pub view_said : SaidRead → Read Said
-view_said r = record { value = r.value; next = r.next }
-
-abbrev pub view_prefix : PrefixRead → Read BasicPrefix
-view_prefix r = record { value = r.value; next = r.next }
-
-abbrev pub view_matter : MatterRead → Read Matter
-view_matter r = record { value = r.value; next = r.next }

@@ -2,7 +2,7 @@
 #![tactic(auto)]
 
 ghost use Rattle.std.specs.Prelude.{◌≡◌};
-ghost use Rattle.codec_cursor.specs.Readers.{starting, advanced, need, view_byte, read_byte, view_said, read_said, view_prefix, read_prefix, view_matter, read_identifier, view_sn, read_number, view_u32, read_quad, counted, letter_only};
+ghost use Rattle.codec_cursor.specs.Readers.{starting, advanced, need, read_byte, read_said, read_prefix, read_identifier, read_number, read_quad, counted, letter_only};
 
 pub use cesr::{BasicPrefix, Matter, Said};
 use cesr_number::number::{has_room, read_u8, read_u32};
@@ -14,39 +14,10 @@ pub struct Cursor {
     pub at: usize,
 }
 
+// What reading gives: a value, and the cursor behind it.
 #[derive(Clone, Copy)]
-pub struct ByteRead {
-    pub value: u8,
-    pub next: Cursor,
-}
-
-#[derive(Clone, Copy)]
-pub struct U32Read {
-    pub value: u32,
-    pub next: Cursor,
-}
-
-#[derive(Clone, Copy)]
-pub struct SnRead {
-    pub value: Sn,
-    pub next: Cursor,
-}
-
-#[derive(Clone, Copy)]
-pub struct SaidRead {
-    pub value: Said,
-    pub next: Cursor,
-}
-
-#[derive(Clone, Copy)]
-pub struct PrefixRead {
-    pub value: BasicPrefix,
-    pub next: Cursor,
-}
-
-#[derive(Clone, Copy)]
-pub struct MatterRead {
-    pub value: Matter,
+pub struct Read<T> {
+    pub value: T,
     pub next: Cursor,
 }
 
@@ -82,12 +53,12 @@ impl Cursor {
         Cursor { ok: false, at: 0 }
     }
 
-    pub fn byte(self, s: &[u8]) -> ByteRead
-        ensures { view_byte result ≡ read_byte s.now self }
+    pub fn byte(self, s: &[u8]) -> Read<u8>
+        ensures { result ≡ read_byte s.now self }
     {
         let value = read_u8(s, self.at);
         let next = self.advance(s, 1);
-        ByteRead { value, next }
+        Read { value, next }
     }
 
     // A count byte that has to be n.
@@ -98,52 +69,52 @@ impl Cursor {
         b.next.expect_that(b.value == n)
     }
 
-    pub fn quad(self, s: &[u8]) -> U32Read
-        ensures { view_u32 result ≡ read_quad s.now self }
+    pub fn quad(self, s: &[u8]) -> Read<u32>
+        ensures { result ≡ read_quad s.now self }
     {
         let value = read_u32(s, self.at);
         let next = self.advance(s, 4);
-        U32Read { value, next }
+        Read { value, next }
     }
 
-    pub fn sn(self, s: &[u8]) -> SnRead
-        ensures { view_sn result ≡ read_number s.now self }
+    pub fn sn(self, s: &[u8]) -> Read<Sn>
+        ensures { result ≡ read_number s.now self }
     {
         let value = Sn::read(s, self.at);
         let next = self.advance(s, 16);
-        SnRead { value, next }
+        Read { value, next }
     }
 
-    pub fn said(self, s: &[u8]) -> SaidRead
-        ensures { view_said result ≡ read_said s.now self }
+    pub fn said(self, s: &[u8]) -> Read<Said>
+        ensures { result ≡ read_said s.now self }
     {
         let m = Matter::read(s, self.at);
         let next = self.advance(s, 33).expect_that(m.is_said());
-        SaidRead {
+        Read {
             value: Said(m),
             next,
         }
     }
 
-    pub fn prefix(self, s: &[u8]) -> PrefixRead
-        ensures { view_prefix result ≡ read_prefix s.now self }
+    pub fn prefix(self, s: &[u8]) -> Read<BasicPrefix>
+        ensures { result ≡ read_prefix s.now self }
     {
         let m = Matter::read(s, self.at);
         let next = self.advance(s, 33).expect_that(m.is_basic());
-        PrefixRead {
+        Read {
             value: BasicPrefix(m),
             next,
         }
     }
 
-    pub fn identifier(self, s: &[u8]) -> MatterRead
-        ensures { view_matter result ≡ read_identifier s.now self }
+    pub fn identifier(self, s: &[u8]) -> Read<Matter>
+        ensures { result ≡ read_identifier s.now self }
     {
         let value = Matter::read(s, self.at);
         let next = self
             .advance(s, 33)
             .expect_that(value.is_basic() | value.is_said());
-        MatterRead { value, next }
+        Read { value, next }
     }
 
     // Behind a digest whose bytes are not wanted: only its letter is looked at.
