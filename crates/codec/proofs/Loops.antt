@@ -23,7 +23,8 @@ use Rattle.events.proofs.MemberLaws.{view-push}
 use Rattle.events_tel.specs.TelEvents.{members_in}
 use Rattle.events_tel.specs.Configs.{has_room, pushed}
 use Rattle.events_tel.specs.declared.Cursor.{Cursor}
-use Rattle.events_tel.specs.Readers.{Read, Reader, stopped, need, read_byte, read_prefix, times, count_up_to, section}
+use Rattle.events_tel.specs.Readers.{Reader, stopped, need, read_byte, read_prefix, times, count_up_to, section}
+use Rattle.events_tel.specs.declared.Read.{Read}
 use Rattle.codec.specs.Events.{read_prefixes}
 
 pub count-within : (limit : ℕ) (s : List ℕ) (c : Cursor) (r : Read ℕ) → r ≡ count_up_to limit s c → r.value ≤ limit

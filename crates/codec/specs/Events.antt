@@ -2,6 +2,7 @@
 use Rattle.std.specs.Prelude.{ℕ, ◌%◌, ◌^◌, List, Bool, cond, ◌&&◌, leb, ltb, eqb}
 use Rattle.events_tel.specs.Numbers.{value}
 use Rattle.events_tel.specs.declared.Sn.{Sn}
+use Rattle.events_tel.specs.declared.Toad.{Toad}
 use Rattle.events.specs.declared.Matter.{Matter}
 use Rattle.events.specs.declared.Said.{Said}
 use Rattle.events.specs.declared.BasicPrefix.{BasicPrefix}
@@ -12,12 +13,8 @@ use Rattle.events_tel.specs.TelEvents.{Event, members_in}
 use Rattle.events_tel.specs.TelEvents.Event.{vcp, vrt, iss, rev, bis, brv}
 use Rattle.events_tel.specs.declared.Seal.{Seal}
 use Rattle.events_tel.specs.declared.Seal.TheVariants.{Digest, Root, Source, Event as EventSeal, Last, Back, Kind, Opaque}
-use Rattle.codec.specs.declared.CountRead.{CountRead}
-use Rattle.codec.specs.declared.ConfigsRead.{ConfigsRead}
-use Rattle.codec.specs.declared.PrefixesRead.{PrefixesRead}
-use Rattle.codec.specs.declared.ListedRead.{ListedRead}
-use Rattle.codec.specs.declared.ToadRead.{ToadRead}
-use Rattle.events_tel.specs.Readers.{Read, Reader, need, read_byte, read_byte_if, read_number, read_identifier, read_said, read_prefix, mapped, both, after, ended, section}
+use Rattle.events_tel.specs.Readers.{Reader, need, read_byte, read_byte_if, read_number, read_identifier, read_said, read_prefix, mapped, both, after, ended, section}
+use Rattle.events_tel.specs.declared.Read.{Read}
 
 -- a config byte is 1 to 6
 unfoldable pub is_config : ℕ → Bool
@@ -30,6 +27,10 @@ read_config s c = read_byte_if is_config s c
 unfoldable pub read_toad : Reader ℕ
 read_toad s c =
     record { value = (read_number s c).value.lo % 2 ^ 32; next = need (read_number s c).next (ltb (value (read_number s c).value) (2 ^ 32)) }
+
+-- a threshold's number
+abbrev pub toad_value : Toad → ℕ
+toad_value t = t.0
 
 -- a seal that is no event seal, by its kind
 unfoldable pub seal_of : ℕ → Seal
@@ -117,19 +118,3 @@ read_kind k s c =
 
 unfoldable pub read_event : Reader Event
 read_event s c = read_kind (read_byte s c).value s (read_byte s c).next
-
--- what the structs of the code stand for
-abbrev pub view_count_read : CountRead → Read ℕ
-view_count_read r = record { value = r.value; next = r.next }
-
-abbrev pub view_configs_read : ConfigsRead → Read (List ℕ)
-view_configs_read r = record { value = view_configs r.value; next = r.next }
-
-abbrev pub view_prefixes_read : PrefixesRead → Read (List BasicPrefix)
-view_prefixes_read r = record { value = view r.value; next = r.next }
-
-abbrev pub view_listed_read : List ℕ → ListedRead → Read (List BasicPrefix)
-view_listed_read s r = record { value = members_in s r.value; next = r.next }
-
-abbrev pub view_toad_read : ToadRead → Read ℕ
-view_toad_read r = record { value = r.value.0; next = r.next }

@@ -2,40 +2,40 @@
 ghost use Rattle.std.specs.Prelude.{◌≡◌, ◌≤◌, min};
 ghost use Rattle.events.specs.Members.{view};
 ghost use Rattle.events_tel.specs.TelEvents.{members_in};
-ghost use Rattle.events_tel.specs.Readers.{count_up_to, section, times, read_prefix, view_byte};
-ghost use Rattle.codec.specs.Events.{read_config, read_configs, read_prefixes, read_toad, view_count_read, view_configs_read, view_prefixes_read, view_listed_read, view_toad_read};
+ghost use Rattle.events_tel.specs.Readers.{viewed, count_up_to, times, read_prefix};
+ghost use Rattle.events_tel.specs.Configs.{view_configs};
+ghost use Rattle.codec.specs.Events.{read_config, read_configs, read_prefixes, read_toad, toad_value};
 
-use crate::{ConfigsRead, CountRead, ListedRead, PrefixesRead, ToadRead};
 use events::{BasicPrefix, Matter, Members};
-use events_tel::{ByteRead, Configs, Cursor, Listed, Sn, Toad};
+use events_tel::{Configs, Cursor, Listed, Read, Sn, Toad};
 
 // The count byte of a section of at most limit elements. Where it is not there or above the limit, it counts none.
-pub fn count_up_to(c: Cursor, s: &[u8], limit: u8) -> CountRead
-    ensures { view_count_read result ≡ count_up_to limit s.now c }
+pub fn count_up_to(c: Cursor, s: &[u8], limit: u8) -> Read<usize>
+    ensures { result ≡ count_up_to limit s.now c }
 {
     let b = c.byte(s);
     let next = b.next.expect_that(b.value <= limit);
     if next.ok {
-        return CountRead {
+        return Read {
             value: b.value as usize,
             next,
         };
     }
-    CountRead { value: 0, next }
+    Read { value: 0, next }
 }
 
 // A config byte: 1 to 6.
-pub fn read_config(c: Cursor, s: &[u8]) -> ByteRead
-    ensures { view_byte result ≡ read_config s.now c }
+pub fn read_config(c: Cursor, s: &[u8]) -> Read<u8>
+    ensures { result ≡ read_config s.now c }
 {
     let b = c.byte(s);
     let value = b.value;
     let next = b.next.expect_that((1 <= value) & (value <= 6));
-    ByteRead { value, next }
+    Read { value, next }
 }
 
-pub fn read_configs(c: Cursor, s: &[u8]) -> ConfigsRead
-    ensures { view_configs_read result ≡ read_configs s.now c }
+pub fn read_configs(c: Cursor, s: &[u8]) -> Read<Configs>
+    ensures { viewed view_configs result ≡ read_configs s.now c }
 {
     let n = count_up_to(c, s, 8);
     let count = n.value;
@@ -48,13 +48,13 @@ pub fn read_configs(c: Cursor, s: &[u8]) -> ConfigsRead
         next = b.next;
         i += 1;
     }
-    ConfigsRead { value, next }
+    Read { value, next }
 }
 
 // So many prefixes from a cursor on. Each is stored in its place, since a list is copied at every call.
-fn read_members(c: Cursor, s: &[u8], count: usize) -> PrefixesRead
+fn read_members(c: Cursor, s: &[u8], count: usize) -> Read<Members>
     requires { count ≤ 16 }
-    ensures read { view_prefixes_read result ≡ times count read_prefix s.now c }
+    ensures read { viewed view result ≡ times count read_prefix s.now c }
     ensures count { result.value.count ≡ count }
 {
     let none = BasicPrefix(Matter::none());
@@ -69,11 +69,11 @@ fn read_members(c: Cursor, s: &[u8], count: usize) -> PrefixesRead
         i += 1;
     }
     let value = Members { items, count };
-    PrefixesRead { value, next }
+    Read { value, next }
 }
 
-pub fn read_prefixes(c: Cursor, s: &[u8]) -> PrefixesRead
-    ensures read { view_prefixes_read result ≡ read_prefixes s.now c }
+pub fn read_prefixes(c: Cursor, s: &[u8]) -> Read<Members>
+    ensures read { viewed view result ≡ read_prefixes s.now c }
     ensures count { result.value.count ≤ 16 }
 {
     let n = count_up_to(c, s, 16);
@@ -81,8 +81,8 @@ pub fn read_prefixes(c: Cursor, s: &[u8]) -> PrefixesRead
 }
 
 // Behind a section of at most 16 prefixes, each held to its layout. They stay in the bytes.
-pub fn pass_prefixes(c: Cursor, s: &[u8]) -> ListedRead
-    ensures { view_listed_read s.now result ≡ read_prefixes s.now c }
+pub fn pass_prefixes(c: Cursor, s: &[u8]) -> Read<Listed>
+    ensures { viewed (members_in s.now) result ≡ read_prefixes s.now c }
 {
     let listed = count_up_to(c, s, 16);
     let count = listed.value;
@@ -93,7 +93,7 @@ pub fn pass_prefixes(c: Cursor, s: &[u8]) -> ListedRead
         next = next.pass_prefix(s);
         i += 1;
     }
-    ListedRead {
+    Read {
         value: Listed { count, start },
         next,
     }
@@ -115,8 +115,8 @@ pub fn members_in(s: &[u8], list: Listed) -> Members
 }
 
 // A threshold has 16 bytes in an event, and has to fit 32 bits.
-pub fn read_toad(c: Cursor, s: &[u8]) -> ToadRead
-    ensures { view_toad_read result ≡ read_toad s.now c }
+pub fn read_toad(c: Cursor, s: &[u8]) -> Read<Toad>
+    ensures { viewed toad_value result ≡ read_toad s.now c }
 {
     let n = c.sn(s);
     let number = n.value;
@@ -126,5 +126,5 @@ pub fn read_toad(c: Cursor, s: &[u8]) -> ToadRead
     };
     let next = n.next.expect_that(number.less(above));
     let value = Toad::from_wire((number.lo % 4294967296) as u32);
-    ToadRead { value, next }
+    Read { value, next }
 }

@@ -9,7 +9,7 @@ use Rattle.cesr.specs.declared.Matter.{Matter}
 use Rattle.cesr.specs.declared.Said.{Said}
 use Rattle.cesr.specs.declared.BasicPrefix.{BasicPrefix}
 use Rattle.codec_cursor.specs.declared.Cursor.{Cursor}
-pub use Rattle.codec_cursor.specs.declared.Read.{Read}
+use Rattle.codec_cursor.specs.declared.Read.{Read}
 
 -- at the first byte
 abbrev pub starting : Cursor
@@ -60,9 +60,13 @@ is_identifier m = is_basic m || is_said m
 unfoldable pub read_identifier : Reader Matter
 read_identifier s c = read_if is_identifier s c
 
+-- what was read, its value under another form
+abbrev pub viewed : {A B : Type 0} → (A → B) → Read A → Read B
+viewed f r = record { value = f r.value; next = r.next }
+
 -- what a reader gives, under another form
 abbrev pub mapped : {A B : Type 0} → (A → B) → Reader A → Reader B
-mapped f p s c = record { value = f (p s c).value; next = (p s c).next }
+mapped f p s c = viewed f (p s c)
 
 abbrev pub said_of : Matter → Said
 said_of m = record { 0 = m }

@@ -26,7 +26,8 @@ use Rattle.codec.proofs.Matters.{length-matter}
 use Rattle.codec_laws.proofs.Round.{Filled, matter-at, matter-bytes, read-filled}
 use Rattle.codec.specs.declared.Cursor.{Cursor}
 use Rattle.codec.specs.Layout.{byte_bytes, said_bytes, prefix_bytes, is_matter, good_sn, good_toad, good_said, good_prefix, good_identifier}
-use Rattle.codec.specs.Readers.{placed, Read, Reader, advanced, counted, mapped, both, after, ended, read_byte, read_byte_if, read_quad, read_number, read_if, read_said, read_prefix, read_identifier, is_identifier, said_of, prefix_of}
+use Rattle.codec.specs.Readers.{placed, Reader, advanced, counted, mapped, both, after, ended, read_byte, read_byte_if, read_quad, read_number, read_if, read_said, read_prefix, read_identifier, is_identifier, said_of, prefix_of}
+use Rattle.codec.specs.declared.Read.{Read}
 use Rattle.codec_laws.proofs.Stands.{Stands, stands-join, stands-first, stands-rest, stands-fits, stands-split, stands-place, went, goes_on, passed, stays}
 
 -- what a reader that has not stopped tells of the value that it gives

@@ -19,7 +19,8 @@ use Rattle.codec.specs.TelEvents.Event.{vcp, vrt, iss, rev, bis, brv}
 use Rattle.codec.specs.declared.Seal.{Seal}
 use Rattle.codec.specs.declared.Cursor.{Cursor}
 use Rattle.codec.specs.Layout.{joined, section_bytes, byte_bytes, said_bytes, prefix_bytes, seal_bytes, as_it_is, six_sections, sections_of, kind_byte, event_bytes, good_said, good_identifier, good_sn, good_toad, good_configs, good_prefixes, good_seal, good_event}
-use Rattle.codec.specs.Readers.{placed, Read, Reader, need, mapped, both, after, ended, read_byte, read_number, read_said, read_identifier}
+use Rattle.codec.specs.Readers.{placed, Reader, need, mapped, both, after, ended, read_byte, read_number, read_said, read_identifier}
+use Rattle.codec.specs.declared.Read.{Read}
 use Rattle.codec.specs.Events.{read_toad, read_configs, read_prefixes, read_seal, vcp_of, vrt_of, iss_of, rev_of, bis_of, brv_of, read_vcp, read_vrt, read_iss, read_rev, read_bis, read_brv, read_kind, read_event}
 use Rattle.codec_laws.proofs.Stands.{Stands, passed, stays}
 use Rattle.codec_laws.proofs.Codes.{Told, Codes, led, leads, shift, mapped-is, codes-both, codes-after, codes-ended, codes-sn, codes-said, codes-identifier}

@@ -7,7 +7,8 @@ use borrow.Author.Tests.{eqb-true}
 use lib.Dec.{eqb}
 use Rattle.laws.specs.Number.{Bytes}
 use Rattle.codec.specs.declared.Cursor.{Cursor}
-use Rattle.codec.specs.Readers.{Read, need, read_byte}
+use Rattle.codec.specs.Readers.{need, read_byte}
+use Rattle.codec.specs.declared.Read.{Read}
 use Rattle.codec_laws.proofs.Stands.{Stands, Passed, passed, stays}
 use Rattle.codec_laws.proofs.Codes.{Told, codes-byte}
 

@@ -17,7 +17,8 @@ use Rattle.laws.specs.Room.{room, put}
 use Rattle.laws.proofs.Room.{put-sets, put-none, room-true, room-false, stored_same}
 use Rattle.laws.proofs.Tests.{and_left, and_right}
 use Rattle.codec.specs.declared.Cursor.{Cursor}
-use Rattle.codec.specs.Readers.{placed, Read, Reader, starting}
+use Rattle.codec.specs.Readers.{placed, Reader, starting}
+use Rattle.codec.specs.declared.Read.{Read}
 use Rattle.codec_laws.proofs.Stands.{Stands, stands-whole, whole-stands}
 use Rattle.codec_laws.proofs.Codes.{Codes}
 

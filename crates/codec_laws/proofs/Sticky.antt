@@ -13,7 +13,8 @@ use mathlib.Core.List.{List}
 use lib.Dec.{eqb}
 use Rattle.codec.specs.declared.Matter.{Matter}
 use Rattle.codec.specs.declared.Cursor.{Cursor}
-use Rattle.codec.specs.Readers.{Read, Reader, read_byte, read_quad, read_number, read_if, read_identifier, said_of, read_said, prefix_of, read_prefix, read_byte_if, counted, mapped, both, after, ended, times, count_up_to, section}
+use Rattle.codec.specs.Readers.{Reader, read_byte, read_quad, read_number, read_if, read_identifier, said_of, read_said, prefix_of, read_prefix, read_byte_if, counted, mapped, both, after, ended, times, count_up_to, section}
+use Rattle.codec.specs.declared.Read.{Read}
 use Rattle.codec.specs.Events.{is_config, read_config, read_toad, event_seal, read_event_seal, read_other_seal, read_seal, read_configs, read_prefixes}
 use Rattle.codec_laws.proofs.Stands.{went, passed}
 

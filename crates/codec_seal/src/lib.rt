@@ -2,12 +2,3 @@
 #![tactic(auto)]
 
 pub mod seal;
-
-use codec::Cursor;
-use events_seal::Seal;
-
-#[derive(Clone, Copy)]
-pub struct SealRead {
-    pub value: Seal,
-    pub next: Cursor,
-}

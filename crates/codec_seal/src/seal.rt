@@ -2,11 +2,9 @@
 ghost use Rattle.std.specs.Prelude.{◌≡◌, ◌&&◌, leb};
 ghost use Rattle.codec.specs.Readers.{section};
 ghost use Rattle.codec.specs.Events.{seal_of, read_event_seal, read_other_seal, read_seal};
-ghost use Rattle.codec_seal.specs.SealReads.{view_seal_read};
 
-use crate::SealRead;
-use codec::Cursor;
 use codec::section::count_up_to;
+use codec::{Cursor, Read};
 use events_seal::{Identifier, Seal};
 
 // A seal that is no event seal: no rule reads its content, and it has no bytes but its kind.
@@ -25,8 +23,8 @@ fn seal_of(kind: u8) -> Seal
 }
 
 // An event seal, behind its kind.
-fn read_event_seal(c: Cursor, s: &[u8]) -> SealRead
-    ensures { view_seal_read result ≡ read_event_seal s.now c }
+fn read_event_seal(c: Cursor, s: &[u8]) -> Read<Seal>
+    ensures { result ≡ read_event_seal s.now c }
 {
     let i = c.identifier(s);
     let n = i.next.sn(s);
@@ -35,7 +33,7 @@ fn read_event_seal(c: Cursor, s: &[u8]) -> SealRead
     let number = n.value;
     let said = d.value;
     let next = d.next;
-    SealRead {
+    Read {
         value: Seal::Event {
             i: identifier,
             s: number,
@@ -52,18 +50,18 @@ fn is_seal_kind(kind: u8) -> bool
     (1 <= kind) & (kind <= 8)
 }
 
-fn read_other_seal(c: Cursor, s: &[u8]) -> SealRead
-    ensures { view_seal_read result ≡ read_other_seal s.now c }
+fn read_other_seal(c: Cursor, s: &[u8]) -> Read<Seal>
+    ensures { result ≡ read_other_seal s.now c }
 {
     let k = c.byte(s);
     let kind = k.value;
     let next = k.next.expect_that(is_seal_kind(kind));
     let value = seal_of(kind);
-    SealRead { value, next }
+    Read { value, next }
 }
 
-pub fn read_seal(c: Cursor, s: &[u8]) -> SealRead
-    ensures { view_seal_read result ≡ read_seal s.now c }
+pub fn read_seal(c: Cursor, s: &[u8]) -> Read<Seal>
+    ensures { result ≡ read_seal s.now c }
 {
     let k = c.byte(s);
     if k.value == 4 {

@@ -1,13 +1,13 @@
 // An event: its kind byte, then six sections by kind (docs/RULES.md, "Bytes"). The sections of a registry's events are read one crate below.
 ghost use Rattle.std.specs.Prelude.{◌≡◌, cond};
-ghost use Rattle.codec_cursor.specs.Readers.{counted};
-ghost use Rattle.codec_tel_registry.specs.EventReads.{view_event_read};
+ghost use Rattle.codec_cursor.specs.Readers.{counted, viewed};
+ghost use Rattle.codec_tel_registry.specs.TelEvents.{view_event};
 ghost use Rattle.codec_tel_registry.specs.Events.{read_iss, read_rev, read_bis, read_brv, read_event};
 
 use codec_cursor::Cursor;
 use codec_seal::seal::read_seal;
 use codec_tel_registry::tel::{blank, read_vcp, read_vrt};
-use codec_tel_registry::{EventRead, Kind, TelEvent};
+use codec_tel_registry::{Kind, Read, TelEvent};
 use events_seal::Seal;
 
 // A credential's event: where its digests stand, and its seal.
@@ -35,8 +35,8 @@ fn pass_empty(c: Cursor, s: &[u8]) -> Cursor
     c.count(s, 0).count(s, 0).count(s, 0).count(s, 0)
 }
 
-fn read_iss(c: Cursor, s: &[u8]) -> EventRead
-    ensures { view_event_read s.now result ≡ read_iss s.now c }
+fn read_iss(c: Cursor, s: &[u8]) -> Read<TelEvent>
+    ensures { viewed (view_event s.now) result ≡ read_iss s.now c }
 {
     let iss = c.count(s, 3);
     let credential = iss.pass_said(s);
@@ -44,11 +44,11 @@ fn read_iss(c: Cursor, s: &[u8]) -> EventRead
     let next = pass_empty(registry.pass_said(s), s).count(s, 0);
     let none = Seal::Digest;
     let value = of_credential(Kind::Iss, iss.at, credential.at, registry.at, 0, none);
-    EventRead { value, next }
+    Read { value, next }
 }
 
-fn read_rev(c: Cursor, s: &[u8]) -> EventRead
-    ensures { view_event_read s.now result ≡ read_rev s.now c }
+fn read_rev(c: Cursor, s: &[u8]) -> Read<TelEvent>
+    ensures { viewed (view_event s.now) result ≡ read_rev s.now c }
 {
     let rev = c.count(s, 4);
     let credential = rev.pass_said(s);
@@ -64,12 +64,12 @@ fn read_rev(c: Cursor, s: &[u8]) -> EventRead
         prior.at,
         none,
     );
-    EventRead { value, next }
+    Read { value, next }
 }
 
 // A bis or a brv. They differ in what the third digest is: the registry's, or the event's before it. Read in one place, the seal is made where the event has it; one that a function of its own hands to two others is copied, which takes longer than reading it.
-fn read_backed(issues: bool, c: Cursor, s: &[u8]) -> EventRead
-    ensures { view_event_read s.now result ≡ cond issues (read_bis s.now c) (read_brv s.now c) }
+fn read_backed(issues: bool, c: Cursor, s: &[u8]) -> Read<TelEvent>
+    ensures { viewed (view_event s.now) result ≡ cond issues (read_bis s.now c) (read_brv s.now c) }
 {
     let said = c.count(s, 3);
     let credential = said.pass_said(s);
@@ -79,15 +79,15 @@ fn read_backed(issues: bool, c: Cursor, s: &[u8]) -> EventRead
     let next = own.next;
     if issues {
         let value = of_credential(Kind::Bis, said.at, credential.at, third.at, 0, seal);
-        return EventRead { value, next };
+        return Read { value, next };
     }
     let value = of_credential(Kind::Brv, said.at, credential.at, 0, third.at, seal);
-    EventRead { value, next }
+    Read { value, next }
 }
 
 // A kind byte that is not 1 to 6 is a fault.
-pub fn read_event(c: Cursor, s: &[u8]) -> EventRead
-    ensures { view_event_read s.now result ≡ read_event s.now c }
+pub fn read_event(c: Cursor, s: &[u8]) -> Read<TelEvent>
+    ensures { viewed (view_event s.now) result ≡ read_event s.now c }
 {
     let k = c.byte(s);
     let kind = k.value;

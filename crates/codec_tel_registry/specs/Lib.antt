@@ -1,2 +1,2 @@
 pub use Rattle.codec.specs.Events
-pub mod EventReads
+pub use Rattle.codec.specs.TelEvents

@@ -3,12 +3,4 @@
 
 pub mod tel;
 
-pub use codec::{Kind, TelEvent};
-use codec_cursor::Cursor;
-
-// An event that was read, of a registry or of a credential.
-#[derive(Clone, Copy)]
-pub struct EventRead {
-    pub value: TelEvent,
-    pub next: Cursor,
-}
+pub use codec::{Kind, Read, TelEvent};

@@ -1,12 +1,12 @@
 // The events of a registry, behind the kind byte: six sections by kind (docs/RULES.md, "Bytes").
 ghost use Rattle.std.specs.Prelude.{◌≡◌};
-ghost use Rattle.codec_tel_registry.specs.EventReads.{view_event_read};
+ghost use Rattle.codec.specs.Readers.{viewed};
+ghost use Rattle.codec.specs.TelEvents.{view_event};
 ghost use Rattle.codec.specs.Events.{read_vcp, read_vrt};
 
-use crate::EventRead;
 use cesr_sn::Sn;
 use codec::section::{pass_prefixes, read_configs, read_toad};
-use codec::{Configs, Kind, Listed, TelEvent};
+use codec::{Configs, Kind, Listed, Read, TelEvent};
 use codec_cursor::Cursor;
 use events_seal::Seal;
 use events_toad::Toad;
@@ -35,8 +35,8 @@ pub fn blank(kind: Kind, said: usize, seal: Seal) -> TelEvent
     }
 }
 
-pub fn read_vcp(c: Cursor, s: &[u8]) -> EventRead
-    ensures { view_event_read s.now result ≡ read_vcp s.now c }
+pub fn read_vcp(c: Cursor, s: &[u8]) -> Read<TelEvent>
+    ensures { viewed (view_event s.now) result ≡ read_vcp s.now c }
 {
     let vcp = c.count(s, 2);
     let issuer = vcp.pass_said(s);
@@ -52,11 +52,11 @@ pub fn read_vcp(c: Cursor, s: &[u8]) -> EventRead
     value.toad = toad;
     value.configs = configs;
     value.backers = backers;
-    EventRead { value, next }
+    Read { value, next }
 }
 
-pub fn read_vrt(c: Cursor, s: &[u8]) -> EventRead
-    ensures { view_event_read s.now result ≡ read_vrt s.now c }
+pub fn read_vrt(c: Cursor, s: &[u8]) -> Read<TelEvent>
+    ensures { viewed (view_event s.now) result ≡ read_vrt s.now c }
 {
     let vrt = c.count(s, 3);
     let registry = vrt.pass_said(s);
@@ -77,5 +77,5 @@ pub fn read_vrt(c: Cursor, s: &[u8]) -> EventRead
     value.toad = toad;
     value.backers = cuts;
     value.additions = additions;
-    EventRead { value, next }
+    Read { value, next }
 }

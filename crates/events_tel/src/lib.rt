@@ -4,7 +4,7 @@
 pub mod config;
 pub mod tel;
 
-pub use codec_cursor::{ByteRead, Cursor, Sn};
+pub use codec_cursor::{Cursor, Read, Sn};
 pub use events_seal::{Identifier, Seal};
 pub use events_toad::Toad;
 

@@ -3,7 +3,8 @@ use Rattle.std.specs.Prelude.{ℕ, ◌+◌, List, Bool, true, false, cond, ◌&&
 use Rattle.laws.specs.Number.{number_at}
 use Rattle.laws.specs.Words.{same_list}
 use Rattle.cesr.specs.Primitives.{is_said}
-use Rattle.codec_cursor.specs.Readers.{Read, starting, is_identifier}
+use Rattle.codec_cursor.specs.Readers.{starting, is_identifier}
+use Rattle.codec_cursor.specs.declared.Read.{Read}
 use Rattle.codec.specs.Events.{is_config}
 use Rattle.codec.specs.Layout.{all}
 use Rattle.registry_state.specs.States.{Registry, view_registry, registry_bytes, read_registry, is_backer}

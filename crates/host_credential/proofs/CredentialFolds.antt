@@ -11,7 +11,8 @@ use mathlib.Core.Option.{Option, none, some}
 use lib.Dec.{eqb}
 use lib.ListN.{length}
 use Rattle.codec_cursor.specs.declared.Cursor.{Cursor}
-use Rattle.codec_cursor.specs.Readers.{Read, starting}
+use Rattle.codec_cursor.specs.Readers.{starting}
+use Rattle.codec_cursor.specs.declared.Read.{Read}
 use Rattle.registry_state.specs.States.{Registry, read_registry}
 use Rattle.registry_state_credential.specs.declared.CredentialState.{CredentialState}
 use Rattle.registry_issue.specs.IssueFolds as I

@@ -20,13 +20,14 @@ use Rattle.cesr.specs.declared.Said.{Said}
 use Rattle.cesr.specs.Primitives.{read_matter, matter_bytes}
 use Rattle.cesr.proofs.Matters.{length-matter}
 use Rattle.codec_cursor.specs.declared.Cursor.{Cursor}
-use Rattle.codec_cursor.specs.Readers.{Read, Reader, starting, placed, read_if, read_said, read_identifier}
+use Rattle.codec_cursor.specs.Readers.{Reader, viewed, starting, placed, read_if, read_said, read_identifier}
+use Rattle.codec_cursor.specs.declared.Read.{Read}
 use Rattle.codec.specs.Layout.{said_bytes, good_said, good_identifier}
 use Rattle.codec_laws.proofs.Stands.{Stands, stands-first, stands-rest, whole-stands}
 use Rattle.codec_laws.proofs.Codes.{Codes, codes-said, codes-identifier}
 use Rattle.codec_laws.proofs.CodesRound.{whole-sound, whole-complete}
-use Rattle.registry_state.specs.States.{Registry, view_registry, registry_bytes, good_registry, read_registry, view_registry_read, well_registry}
-use Rattle.registry_state.specs.declared.RegistryRead.{RegistryRead}
+use Rattle.registry_state.specs.States.{Registry, view_registry, registry_bytes, good_registry, read_registry, well_registry}
+use Rattle.registry_state.specs.declared.RegistryState.{RegistryState}
 use Rattle.registry_state.proofs.CodesState.{codes-registry}
 use Rattle.host_next.specs.ByteFolds.{whole_of, registry_in}
 
@@ -82,7 +83,7 @@ module _ (s : List ℕ) (g : Registry) (b : Bytes s) (e : registry_in s ≡ some
       let good = and_left (good_identifier g.issuer) _ (and_right (good_said g.id) _ w.1) in
       ap (λ (x : Read Matter). x.value) (codes-identifier.complete s (placed 33) g.issuer refl at good)
 
-module _ (s : List ℕ) (c : Cursor) (t : Bool) (b : c ≡ starting) (r : RegistryRead) (e : view_registry_read r ≡ read_registry s c) (f : t ≡ (r.next.ok && eqb r.next.at (length s))) where
+module _ (s : List ℕ) (c : Cursor) (t : Bool) (b : c ≡ starting) (r : Read RegistryState) (e : viewed view_registry r ≡ read_registry s c) (f : t ≡ (r.next.ok && eqb r.next.at (length s))) where
   pub registry-none : t ≡ false → registry_in s ≡ none
   unfolding registry_in
   registry-none h = rw (← b, ← e, ← f, h)

@@ -4,7 +4,8 @@ use Rattle.std.proofs.Math.Option.{Option, none, some}
 use Rattle.std.proofs.lemmas.List.Edits.{sets}
 use Rattle.cesr.specs.Primitives.{read_matter}
 use Rattle.cesr_sn.specs.declared.Sn.{Sn}
-use Rattle.codec_cursor.specs.Readers.{Read, starting}
+use Rattle.codec_cursor.specs.Readers.{starting}
+use Rattle.codec_cursor.specs.declared.Read.{Read}
 use Rattle.registry_head.specs.HeadBytes.{head_bytes}
 use Rattle.registry_room.specs.NextStates.{next_bytes}
 use Rattle.registry_room.specs.declared.NextState.{NextState}

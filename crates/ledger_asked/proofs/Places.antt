@@ -14,7 +14,8 @@ use Rattle.cesr.specs.declared.Said.{Said}
 use Rattle.events_seal.specs.declared.Seal.{Seal}
 use Rattle.events_seal.specs.declared.Seal.TheVariants.{Digest, Root, Source, Last, Back, Kind, Opaque}
 use Rattle.codec_cursor.specs.declared.Cursor.{Cursor}
-use Rattle.codec_cursor.specs.Readers.{Read, Reader, starting, placed, need, read_byte, read_byte_if, read_if, read_identifier, read_said, counted, both, after, ended}
+use Rattle.codec_cursor.specs.Readers.{Reader, starting, placed, need, read_byte, read_byte_if, read_if, read_identifier, read_said, counted, both, after, ended}
+use Rattle.codec_cursor.specs.declared.Read.{Read}
 use Rattle.codec.specs.Events.{vcp_of, vrt_of, iss_of, rev_of, bis_of, brv_of, seal_of, read_event_seal, read_other_seal, read_seal, read_vcp, read_vrt, read_iss, read_rev, read_bis, read_brv, read_kind, read_event}
 use Rattle.events_tel.specs.TelEvents.{Event}
 use Rattle.codec_laws.proofs.Stands.{went, passed}

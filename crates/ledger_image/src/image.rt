@@ -2,26 +2,24 @@
 ghost use Rattle.std.specs.Prelude.{◌≡◌};
 ghost use Rattle.laws.specs.Number.{digits};
 ghost use Rattle.laws.specs.Room.{room, put};
-ghost use Rattle.codec.specs.Events.{view_count_read};
 ghost use Rattle.ledger_image.specs.Images.{wide_count};
 
 use cesr_number::number::{read_u16, write_u16};
-use codec::CountRead;
-use codec_cursor::Cursor;
+use codec_cursor::{Cursor, Read};
 
 // The count of a section of at most limit states. Where it is not there or above the limit, it counts none.
-pub fn read_count(c: Cursor, s: &[u8], limit: u16) -> CountRead
-    ensures { view_count_read result ≡ wide_count limit s.now c }
+pub fn read_count(c: Cursor, s: &[u8], limit: u16) -> Read<usize>
+    ensures { result ≡ wide_count limit s.now c }
 {
     let count = read_u16(s, c.at);
     let next = c.advance(s, 2).expect_that(count <= limit);
     if next.ok {
-        return CountRead {
+        return Read {
             value: count as usize,
             next,
         };
     }
-    CountRead { value: 0, next }
+    Read { value: 0, next }
 }
 
 // Stores both bytes or none, and answers which.

@@ -15,7 +15,8 @@ use lib.ListN.{length, length-map}
 use Rattle.laws.proofs.Tests.{and_left}
 use Rattle.cesr.specs.declared.Said.{Said}
 use Rattle.codec_cursor.specs.declared.Cursor.{Cursor}
-use Rattle.codec_cursor.specs.Readers.{Read, starting, placed, times}
+use Rattle.codec_cursor.specs.Readers.{starting, placed, times}
+use Rattle.codec_cursor.specs.declared.Read.{Read}
 use Rattle.codec.specs.Layout.{all}
 use Rattle.codec_laws.proofs.Codes.{and-true}
 use Rattle.registry_state.specs.States.{Registry, read_registry}

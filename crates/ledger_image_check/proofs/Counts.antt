@@ -14,7 +14,8 @@ use lib.Dec.{leb}
 use lib.ListN.{length, length-append}
 use Rattle.laws.specs.Number.{number_at}
 use Rattle.codec_cursor.specs.declared.Cursor.{Cursor}
-use Rattle.codec_cursor.specs.Readers.{Read, Reader, placed, advanced, need, times}
+use Rattle.codec_cursor.specs.Readers.{Reader, placed, advanced, need, times}
+use Rattle.codec_cursor.specs.declared.Read.{Read}
 use Rattle.codec_laws.proofs.Stands.{passed, went}
 use Rattle.ledger_image.specs.Images.{wide_count, wide_section}
 

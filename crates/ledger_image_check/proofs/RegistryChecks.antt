@@ -11,7 +11,8 @@ use lib.ListN.{length, length-append}
 use Rattle.cesr.specs.Primitives.{eq_said}
 use Rattle.cesr.specs.declared.Said.{Said}
 use Rattle.codec_cursor.specs.declared.Cursor.{Cursor}
-use Rattle.codec_cursor.specs.Readers.{Read, starting, times}
+use Rattle.codec_cursor.specs.Readers.{starting, times}
+use Rattle.codec_cursor.specs.declared.Read.{Read}
 use Rattle.codec.specs.Layout.{all}
 use Rattle.codec_laws.proofs.CodesList.{all_snoc}
 use Rattle.registry_state.specs.States.{Registry, view_registry, read_registry, well_registry}

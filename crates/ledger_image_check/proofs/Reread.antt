@@ -9,7 +9,8 @@ use lib.Dec.{eqb}
 use lib.ListN.{length}
 use Rattle.laws.proofs.Tests.{and_left}
 use Rattle.codec_cursor.specs.declared.Cursor.{Cursor}
-use Rattle.codec_cursor.specs.Readers.{Read, starting, placed, times}
+use Rattle.codec_cursor.specs.Readers.{starting, placed, times}
+use Rattle.codec_cursor.specs.declared.Read.{Read}
 use Rattle.registry_state.specs.States.{Registry, read_registry}
 use Rattle.registry_state_credential.specs.CredentialStates.{read_credential}
 use Rattle.registry_state_credential.specs.declared.CredentialState.{CredentialState}

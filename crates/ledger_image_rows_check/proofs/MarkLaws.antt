@@ -15,7 +15,8 @@ use Rattle.laws.specs.Number.{number_at}
 use Rattle.cesr_sn.specs.Numbers.{value}
 use Rattle.cesr.specs.Primitives.{eq_said}
 use Rattle.cesr.specs.declared.Said.{Said}
-use Rattle.codec_cursor.specs.Readers.{Read, placed}
+use Rattle.codec_cursor.specs.Readers.{placed}
+use Rattle.codec_cursor.specs.declared.Read.{Read}
 use Rattle.registry_state_credential.specs.CredentialStates.{read_credential}
 use Rattle.registry_state_credential.specs.declared.CredentialState.{CredentialState}
 use Rattle.ledger_image_ids.specs.Pairs.{Pair, key_of}

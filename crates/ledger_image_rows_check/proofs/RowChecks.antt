@@ -21,7 +21,8 @@ use Rattle.cesr.specs.Primitives.{eq_said, is_said, read_matter, eq_matter}
 use Rattle.cesr.specs.declared.Matter.{Matter}
 use Rattle.cesr.specs.declared.Said.{Said}
 use Rattle.codec_cursor.specs.declared.Cursor.{Cursor}
-use Rattle.codec_cursor.specs.Readers.{Read, placed, advanced, said_of, read_if, read_said, read_number, times}
+use Rattle.codec_cursor.specs.Readers.{placed, advanced, said_of, read_if, read_said, read_number, times}
+use Rattle.codec_cursor.specs.declared.Read.{Read}
 use Rattle.codec.specs.Layout.{all}
 use Rattle.codec_laws.proofs.Stands.{went, passed}
 use Rattle.codec_laws.proofs.Codes.{and-true}

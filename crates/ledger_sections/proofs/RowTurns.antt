@@ -21,10 +21,10 @@ use Rattle.laws.proofs.Tests.{and_left, and_right}
 use Rattle.codec.specs.Layout.{joined}
 use Rattle.codec_laws.proofs.CodesList.{joined_snoc}
 use Rattle.codec_cursor.specs.declared.Cursor.{Cursor}
-use Rattle.codec_cursor.specs.Readers.{Read, placed, times}
-use Rattle.registry_state_credential.specs.CredentialStates.{no_credential, credential_bytes, read_credential, view_credential_read}
+use Rattle.codec_cursor.specs.Readers.{placed, times}
+use Rattle.codec_cursor.specs.declared.Read.{Read}
+use Rattle.registry_state_credential.specs.CredentialStates.{no_credential, credential_bytes, read_credential}
 use Rattle.registry_state_credential.specs.declared.CredentialState.{CredentialState}
-use Rattle.registry_state_credential.specs.declared.CredentialRead.{CredentialRead}
 use Rattle.registry_state_credential.proofs.CodesCredential.{length-credential}
 use Rattle.ledger_image.specs.Images.{wide_bytes, credential_section}
 use Rattle.ledger_sections.specs.RowImages.{written_rows, rows_from}
@@ -128,11 +128,11 @@ module _ (bs : List ℕ) (a : ℕ) (ys : List CredentialState) where
   unfolding rows_from times
   from_more i = refl
 
-  pub cursor-more : (i : ℕ) (r : CredentialRead) → view_credential_read r ≡ read_credential bs (cursor i) → r.next ≡ cursor (suc i)
+  pub cursor-more : (i : ℕ) (r : Read CredentialState) → r ≡ read_credential bs (cursor i) → r.next ≡ cursor (suc i)
   unfolding times
   cursor-more i r e = ap (λ (q : Read CredentialState). q.next) e
 
-  pub read_more : (i : ℕ) (r : CredentialRead) → view_credential_read r ≡ read_credential bs (cursor i) → set (read i) i r.value ≡ read (suc i)
+  pub read_more : (i : ℕ) (r : Read CredentialState) → r ≡ read_credential bs (cursor i) → set (read i) i r.value ≡ read (suc i)
   read_more i r e =
       ap (λ (q : Read CredentialState). set (read i) i q.value) e
       ∙ ap (λ (k : ℕ). sets (read i) k ((read_credential bs (cursor i)).value ∷ [])) (sym (zero-add (length (rows_from bs a i)) ∙ length_from i))

@@ -1,7 +1,8 @@
 -- The image's section of registries, of registries that are lent as one slice (docs/RULES.md, "Image").
 use Rattle.std.specs.Prelude.{ℕ, min, ◌≡◌, List, map, Bool, ◌&&◌, length, take, drop}
 use Rattle.cesr.specs.Primitives.{is_said}
-use Rattle.codec_cursor.specs.Readers.{Read, placed, is_identifier, times}
+use Rattle.codec_cursor.specs.Readers.{placed, is_identifier, times}
+use Rattle.codec_cursor.specs.declared.Read.{Read}
 use Rattle.codec.specs.Events.{is_config}
 use Rattle.codec.specs.Layout.{all}
 use Rattle.registry_state.specs.States.{Registry, view_registry, read_registry, is_backer}

@@ -6,10 +6,10 @@ ghost use Rattle.registry_state.specs.States.{read_registry};
 ghost use Rattle.ledger_step.specs.Ledgers.{held_of};
 ghost use Rattle.ledger_sections.specs.RegistrySections.{held_read};
 
-use codec_cursor::Cursor;
+use codec_cursor::{Cursor, Read};
 use ledger_image::image::write_count;
 use ledger_step::number::lesser;
-use registry_state::{RegistryRead, RegistryState};
+use registry_state::RegistryState;
 
 // How many registries the section has: the count, but no more than 16 and than the slice has.
 pub fn section_count(count: usize, len: usize) -> usize
@@ -31,7 +31,7 @@ pub fn write_head(out: &mut [u8], count: usize, len: usize, size: usize) -> usiz
 }
 
 // The registry at a cursor, as it is held.
-pub fn read_next(c: Cursor, image: &[u8]) -> RegistryRead
+pub fn read_next(c: Cursor, image: &[u8]) -> Read<RegistryState>
     ensures { (held_of result.value ≡ held_read (read_registry image.now c).value) × (result.next ≡ (read_registry image.now c).next) }
 {
     RegistryState::read(c, image)

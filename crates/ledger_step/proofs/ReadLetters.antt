@@ -14,7 +14,8 @@ use Rattle.cesr.specs.Primitives.{is_said, read_matter}
 use Rattle.events_tel.specs.TelEvents.{Event}
 use Rattle.events_tel.specs.TelEvents.Event.{vcp, vrt, iss, rev, bis, brv}
 use Rattle.codec_cursor.specs.declared.Cursor.{Cursor}
-use Rattle.codec_cursor.specs.Readers.{Read, Reader, starting, need, read_byte, read_if, read_said, counted, mapped, both, after, ended}
+use Rattle.codec_cursor.specs.Readers.{Reader, starting, need, read_byte, read_if, read_said, counted, mapped, both, after, ended}
+use Rattle.codec_cursor.specs.declared.Read.{Read}
 use Rattle.codec.specs.Events.{vcp_of, vrt_of, iss_of, rev_of, bis_of, brv_of, read_seal, read_vcp, read_vrt, read_iss, read_rev, read_bis, read_brv, read_kind, read_event}
 use Rattle.codec_laws.proofs.Stands.{passed}
 use Rattle.codec_laws.proofs.Sticky.{Sticky, sticky-both, sticky-byte, sticky-number, sticky-said, sticky-identifier, sticky-counted, sticky-after, sticky-ended, sticky-toad, sticky-configs, sticky-prefixes, sticky-seal}

@@ -23,7 +23,7 @@ use Rattle.codec.specs.Layout.{good_event}
 use Rattle.registry_state.specs.States.{Registry, view_registry, well_registry}
 use Rattle.registry_state.specs.declared.RegistryState.{RegistryState}
 use Rattle.registry_backer.specs.Attempts.{Message, good_message, view_attempt, view_decoded, decode_of}
-use Rattle.registry_signatures.specs.SignatureSections.{Signature}
+use Rattle.registry_signatures.specs.declared.Signature.{Signature}
 use Rattle.registry_backer.specs.declared.Attempt.{Attempt}
 use Rattle.registry_backer.specs.declared.DecodedAttempt.{DecodedAttempt}
 use Rattle.registry_answer.specs.Answers.{accepts, accept_if, or_else, first_of}

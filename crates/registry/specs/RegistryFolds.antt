@@ -10,7 +10,7 @@ use Rattle.events_tel.specs.TelEvents.Event.{vcp, vrt, iss, rev, bis, brv}
 use Rattle.registry_state.specs.States.{Registry, view_registry, well_registry}
 use Rattle.registry_state.specs.declared.RegistryState.{RegistryState}
 use Rattle.registry_backer.specs.Attempts.{Message, Decoded, decode_of, view_attempt}
-use Rattle.registry_signatures.specs.SignatureSections.{Signature}
+use Rattle.registry_signatures.specs.declared.Signature.{Signature}
 use Rattle.registry_backer.specs.Attempts.Decoded.{malformed, decoded}
 use Rattle.registry_backer.specs.declared.Attempt.{Attempt}
 use Rattle.registry_error.specs.declared.RegistryRejection.TheVariants.{Malformed, DuplicateInception, NotManagementRotation, InconsistentRegistry, RotationOnBackerlessRegistry, PriorDigestMismatch, TooManyBackers}

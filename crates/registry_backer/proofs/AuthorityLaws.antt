@@ -20,7 +20,7 @@ use Rattle.events_seal.specs.Identifiers.{matter_of}
 use Rattle.events_seal.specs.declared.Seal.{Seal}
 use Rattle.events_seal.specs.declared.Seal.TheVariants.{Digest, Root, Source, Event, Last, Back, Kind, Opaque}
 use Rattle.registry_wire.specs.States.{Registry}
-use Rattle.registry_signatures.specs.SignatureSections.{Signature}
+use Rattle.registry_signatures.specs.declared.Signature.{Signature}
 use Rattle.registry_wire.specs.Attempts.{Evidence, evidence_of}
 use Rattle.registry_wire.specs.Attempts.Evidence.{missing, issuer, backer, backer_at}
 use Rattle.registry_wire.specs.declared.Part.{Part}

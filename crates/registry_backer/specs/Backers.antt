@@ -10,7 +10,7 @@ use Rattle.events_tel.specs.Configs.{no_backers}
 use Rattle.events_seal.specs.declared.Seal.{Seal}
 use Rattle.events_seal.specs.declared.Seal.TheVariants.{Digest, Root, Source, Event, Last, Back, Kind, Opaque}
 use Rattle.registry_wire.specs.States.{Registry}
-use Rattle.registry_signatures.specs.SignatureSections.{Signature}
+use Rattle.registry_signatures.specs.declared.Signature.{Signature}
 use Rattle.registry_wire.specs.Attempts.{Evidence}
 use Rattle.registry_wire.specs.Attempts.Evidence.{missing, issuer, backer, backer_at}
 use Rattle.registry_error.specs.declared.RegistryRejection.TheVariants.{InconsistentRegistry, InconsistentIssuer, InconsistentManagement, UnresolvedAnchor}

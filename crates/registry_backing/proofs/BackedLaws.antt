@@ -8,7 +8,7 @@ use lib.ListN.{length}
 use Rattle.cesr.specs.declared.BasicPrefix.{BasicPrefix}
 use Rattle.events.specs.Members.{check_members}
 use Rattle.events_toad.specs.Toads.{exact_ok}
-use Rattle.registry_verification.specs.SignatureSections.{Signature}
+use Rattle.registry_verification.specs.declared.Signature.{Signature}
 use Rattle.registry_error.specs.declared.Answer.{Answer}
 use Rattle.registry_error.specs.declared.Answer.TheVariants.{Rejected}
 use Rattle.registry_error.specs.declared.RegistryRejection.TheVariants.{BackerThreshold}

@@ -22,7 +22,8 @@ use Rattle.cesr.proofs.Matters.{length-matter}
 use Rattle.events.specs.Members.{has}
 use Rattle.events_tel.specs.Configs.{view_configs}
 use Rattle.codec_cursor.specs.declared.Cursor.{Cursor}
-use Rattle.codec_cursor.specs.Readers.{Read, read_if, read_prefix, times}
+use Rattle.codec_cursor.specs.Readers.{read_if, read_prefix, times}
+use Rattle.codec_cursor.specs.declared.Read.{Read}
 use Rattle.codec.specs.Layout.{joined, section_bytes, prefix_bytes}
 use Rattle.codec.proofs.Loops.{length-times}
 use Rattle.codec_laws.proofs.CodesList.{joined-append, joined_snoc}

@@ -15,7 +15,7 @@ use Rattle.events_tel.specs.TelEvents.{Event, sn_zero}
 use Rattle.events_tel.specs.TelEvents.Event.{vcp, vrt, iss, rev, bis, brv}
 use Rattle.events_seal.specs.declared.Seal.{Seal}
 use Rattle.registry_management.specs.States.{Registry}
-use Rattle.registry_signatures.specs.SignatureSections.{Signature}
+use Rattle.registry_signatures.specs.declared.Signature.{Signature}
 use Rattle.registry_backer.specs.Attempts.{Message, Evidence}
 use Rattle.registry_backer.specs.Attempts.Evidence.{missing, issuer, backer, backer_at}
 use Rattle.registry_error.specs.declared.Answer.{Answer}

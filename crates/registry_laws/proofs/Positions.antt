@@ -25,7 +25,7 @@ use Rattle.registry_state_credential.specs.CredentialStates.{well_credential, no
 use Rattle.registry_state.specs.declared.RegistryState.{RegistryState}
 use Rattle.registry_state_credential.specs.declared.CredentialState.{CredentialState}
 use Rattle.registry_credential_state.specs.Attempts.{Message, Anchor, Evidence, decode_of}
-use Rattle.registry_signatures.specs.SignatureSections.{Signature}
+use Rattle.registry_signatures.specs.declared.Signature.{Signature}
 use Rattle.registry_credential_state.specs.Attempts.Decoded.{decoded}
 use Rattle.registry_credential_state.specs.Attempts.Evidence.{missing, issuer, backer, backer_at}
 use Rattle.registry_source.specs.declared.Source.{Source}

@@ -3,7 +3,7 @@ use Rattle.std.specs.Prelude.{ℕ, List}
 use Rattle.cesr.specs.declared.BasicPrefix.{BasicPrefix}
 use Rattle.events_tel.specs.Configs.{view_configs}
 use Rattle.events_tel.specs.TelEvents.{members_in}
-use Rattle.codec_cursor.specs.Readers.{Read}
+use Rattle.codec_cursor.specs.declared.Read.{Read}
 use Rattle.registry_state.specs.States.{Registry}
 use Rattle.registry_management.specs.declared.Management.{Management}
 use Rattle.registry_management.specs.declared.ManagementRead.{ManagementRead}

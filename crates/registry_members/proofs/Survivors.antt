@@ -10,7 +10,8 @@ use Rattle.laws.proofs.Views.{take_step}
 use Rattle.cesr.specs.declared.BasicPrefix.{BasicPrefix}
 use Rattle.events.specs.Members.{has, at, no_prefix}
 use Rattle.codec_cursor.specs.declared.Cursor.{Cursor}
-use Rattle.codec_cursor.specs.Readers.{Read, Reader, times}
+use Rattle.codec_cursor.specs.Readers.{Reader, times}
+use Rattle.codec_cursor.specs.declared.Read.{Read}
 use Rattle.registry_members.specs.Updated.{survivors}
 
 pub survivors-snoc : (cuts a : List BasicPrefix) (x : BasicPrefix) → survivors cuts (a ++ (x ∷ [])) ≡ cond (has x cuts) (survivors cuts a) (survivors cuts a ++ (x ∷ []))

@@ -22,7 +22,8 @@ use Rattle.events_tel.specs.declared.Listed.{Listed}
 use Rattle.events_tel.specs.Configs.{view_configs}
 use Rattle.events_tel.specs.TelEvents.{members_in}
 use Rattle.codec_cursor.specs.declared.Cursor.{Cursor}
-use Rattle.codec_cursor.specs.Readers.{Read, read_prefix, times}
+use Rattle.codec_cursor.specs.Readers.{read_prefix, times}
+use Rattle.codec_cursor.specs.declared.Read.{Read}
 use Rattle.codec.proofs.Loops.{length-times}
 use Rattle.registry_bytes.proofs.StateWrites.{length-state}
 use Rattle.registry_members.specs.Updated.{survivors, updated_members}

@@ -23,7 +23,8 @@ use Rattle.codec.specs.declared.Listed.{Listed}
 use Rattle.codec.specs.TelEvents.{members_in}
 use Rattle.codec.specs.declared.Cursor.{Cursor}
 use Rattle.codec.proofs.Loops.{length-times}
-use Rattle.codec.specs.Readers.{Read, Reader, read_if, read_prefix, times}
+use Rattle.codec.specs.Readers.{Reader, read_if, read_prefix, times}
+use Rattle.codec.specs.declared.Read.{Read}
 
 module _ {A : Type 0} (p : Reader A) (s : List ℕ) (c : Cursor) where
   -- fewer elements are the first of more

@@ -2,15 +2,10 @@
 use Rattle.std.specs.Prelude.{ℕ, ◌^◌, List, [], ◌∷◌, ◌++◌, Bool, ◌&&◌, leb, ltb}
 use Rattle.laws.specs.Number.{digits}
 use Rattle.codec.specs.declared.Cursor.{Cursor}
-use Rattle.codec.specs.Readers.{Read, Reader, placed, read_byte_if, read_quad, mapped, both, times, count_up_to, section}
+use Rattle.codec.specs.Readers.{Reader, placed, read_byte_if, read_quad, mapped, both, times, count_up_to, section}
+use Rattle.codec.specs.declared.Read.{Read}
 use Rattle.registry_signatures.specs.declared.Counted.{Counted}
-use Rattle.registry_signatures.specs.declared.SignatureRead.{SignatureRead}
-use Rattle.registry_signatures.specs.declared.SignaturesRead.{SignaturesRead}
-
--- a signature's index, and its verdict: 0 failed, 1 good
-pub record Signature : Type 0 where
-  pub index : ℕ
-  pub verdict : ℕ
+use Rattle.registry_signatures.specs.declared.Signature.{Signature}
 
 abbrev pub signature_bytes : Signature → List ℕ
 signature_bytes x = digits 4 x.index ++ (x.verdict ∷ [])
@@ -29,11 +24,7 @@ read_signature s c = mapped signature_of (both read_quad (read_byte_if (λ v. le
 unfoldable pub signatures_in : List ℕ → Counted → List Signature
 signatures_in s p = (times p.count read_signature s (placed p.from)).value
 
--- what the struct of the code stands for
-abbrev pub view_signature : SignatureRead → Read Signature
-view_signature r = record { value = record { index = r.index; verdict = r.verdict }; next = r.next }
-
 -- where the section's signatures stand, behind the count byte, and the cursor behind them
-unfoldable pub passed_signatures : List ℕ → Cursor → SignaturesRead
+unfoldable pub passed_signatures : Reader Counted
 passed_signatures s c =
     record { value = record { from = (count_up_to 64 s c).next.at; count = (count_up_to 64 s c).value }; next = (section 64 read_signature s c).next }

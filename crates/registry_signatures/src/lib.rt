@@ -3,8 +3,6 @@
 
 pub mod signatures;
 
-use codec::Cursor;
-
 // Elements in the attempt's bytes, one behind the other.
 #[derive(Clone, Copy)]
 pub struct Counted {
@@ -14,14 +12,7 @@ pub struct Counted {
 
 // A backer's index, and the caller's verdict on its signature: 0 failed, 1 good.
 #[derive(Clone, Copy)]
-pub struct SignatureRead {
+pub struct Signature {
     pub index: u32,
     pub verdict: u8,
-    pub next: Cursor,
-}
-
-#[derive(Clone, Copy)]
-pub struct SignaturesRead {
-    pub value: Counted,
-    pub next: Cursor,
 }

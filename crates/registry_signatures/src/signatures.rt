@@ -1,27 +1,25 @@
 // The signatures of an attempt, section 9 (docs/RULES.md, "Bytes").
 ghost use Rattle.std.specs.Prelude.{◌≡◌};
-ghost use Rattle.registry_signatures.specs.SignatureSections.{view_signature, read_signature, passed_signatures};
+ghost use Rattle.registry_signatures.specs.SignatureSections.{read_signature, passed_signatures};
 
-use crate::{Counted, SignatureRead, SignaturesRead};
-use codec::Cursor;
+use crate::{Counted, Signature};
 use codec::section::count_up_to;
+use codec::{Cursor, Read};
 
-pub fn read_signature(c: Cursor, s: &[u8]) -> SignatureRead
-    ensures { view_signature result ≡ read_signature s.now c }
+pub fn read_signature(c: Cursor, s: &[u8]) -> Read<Signature>
+    ensures { result ≡ read_signature s.now c }
 {
     let i = c.quad(s);
     let v = i.next.byte(s);
     let verdict = v.value;
     let next = v.next.expect_that(verdict <= 1);
-    SignatureRead {
-        index: i.value,
-        verdict,
-        next,
-    }
+    let index = i.value;
+    let value = Signature { index, verdict };
+    Read { value, next }
 }
 
 // Behind a section of at most 64 signatures, each held to its layout. They stay in the bytes.
-pub fn pass_signatures(c: Cursor, s: &[u8]) -> SignaturesRead
+pub fn pass_signatures(c: Cursor, s: &[u8]) -> Read<Counted>
     ensures { result ≡ passed_signatures s.now c }
 {
     let n = count_up_to(c, s, 64);
@@ -34,7 +32,7 @@ pub fn pass_signatures(c: Cursor, s: &[u8]) -> SignaturesRead
         next = signature.next;
         i += 1;
     }
-    SignaturesRead {
+    Read {
         value: Counted { from, count },
         next,
     }

@@ -3,7 +3,8 @@ use Rattle.std.specs.Prelude.{ℕ, List, [], ◌∷◌, ◌++◌, Bool, cond, �
 use Rattle.cesr_sn.specs.Numbers.{sn_bytes}
 use Rattle.cesr_sn.specs.declared.Sn.{Sn}
 use Rattle.cesr.specs.declared.Said.{Said}
-use Rattle.codec_cursor.specs.Readers.{Read, Reader, read_number, read_said, mapped, both}
+use Rattle.codec_cursor.specs.Readers.{Reader, read_number, read_said, mapped, both}
+use Rattle.codec_cursor.specs.declared.Read.{Read}
 use Rattle.codec.specs.Layout.{said_bytes, good_said, good_sn}
 use Rattle.registry_source.specs.declared.Source.{Source}
 use Rattle.registry_source.specs.declared.SourcesRead.{SourcesRead}

@@ -19,7 +19,8 @@ use Rattle.cesr.specs.Primitives.{is_basic, is_said}
 use Rattle.codec.specs.Configs.{view_configs}
 use Rattle.events.specs.Members.{view}
 use Rattle.codec.specs.declared.Cursor.{Cursor}
-use Rattle.codec.specs.Readers.{Read, placed, is_identifier}
+use Rattle.codec.specs.Readers.{placed, is_identifier}
+use Rattle.codec.specs.declared.Read.{Read}
 use Rattle.codec.specs.Events.{is_config}
 use Rattle.codec.specs.Layout.{all, is_matter, good_said, good_identifier, good_sn, good_toad, good_configs, good_prefix, good_prefixes}
 use Rattle.registry_bytes.proofs.CodesRound.{codes-back, codes-again}

@@ -9,11 +9,11 @@ use Rattle.cesr.specs.declared.Said.{Said}
 use Rattle.cesr.specs.declared.BasicPrefix.{BasicPrefix}
 use Rattle.codec.specs.Configs.{view_configs}
 use Rattle.events.specs.Members.{view}
-use Rattle.codec.specs.Readers.{Read, Reader, is_identifier, read_number, read_quad, read_identifier, read_said, mapped, both}
+use Rattle.codec.specs.Readers.{Reader, is_identifier, read_number, read_quad, read_identifier, read_said, mapped, both}
+use Rattle.codec.specs.declared.Read.{Read}
 use Rattle.codec.specs.Events.{is_config, read_configs, read_prefixes}
 use Rattle.codec.specs.Layout.{section_bytes, all, said_bytes, prefix_bytes, byte_bytes, is_matter, good_said, good_identifier, good_sn, good_toad, good_configs, good_prefixes}
 use Rattle.registry_state.specs.declared.RegistryState.{RegistryState}
-use Rattle.registry_state.specs.declared.RegistryRead.{RegistryRead}
 
 -- a registry as the rules see it: its config bytes and backers are lists
 pub record Registry : Type 0 where
@@ -86,9 +86,6 @@ abbrev pub no_registry : Registry
 no_registry = record { id = no_said; issuer = none; sn = no_sn; latest = no_said; toad = 0; configs = []; backers = [] }
 
 -- what the struct of the code stands for
-abbrev pub view_registry_read : RegistryRead → Read Registry
-view_registry_read r = record { value = view_registry r.value; next = r.next }
-
 -- an element and its count, 0 or 1
 abbrev pub optional : {A : Type 0} → ℕ → A → List A
 optional n x = cond (eqb n 0) [] (x ∷ [])

@@ -5,7 +5,7 @@ pub mod state;
 
 use cesr::{Matter, Said};
 use cesr_sn::Sn;
-use codec::{Configs, Cursor};
+use codec::Configs;
 use events::Members;
 use events_toad::Toad;
 
@@ -21,10 +21,4 @@ pub struct RegistryState {
     pub toad: Toad,
     pub configs: Configs,
     pub backers: Members,
-}
-
-#[derive(Clone, Copy)]
-pub struct RegistryRead {
-    pub value: RegistryState,
-    pub next: Cursor,
 }

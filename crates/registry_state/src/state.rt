@@ -1,17 +1,18 @@
 // The state of a registry. It holds numbers alone, since a host lends it as memory and every pattern of bits has to be a value.
 ghost use Rattle.std.specs.Prelude.{◌≡◌, true, ◌+◌, ◌≤◌, length};
 ghost use Rattle.laws.specs.Room.{room, put};
+ghost use Rattle.codec.specs.Readers.{viewed};
 ghost use Rattle.codec.specs.Configs.{view_configs};
 ghost use Rattle.events.specs.Members.{view};
 ghost use Rattle.codec.specs.Events.{is_config};
 ghost use Rattle.codec.specs.Layout.{all};
-ghost use Rattle.registry_state.specs.States.{view_registry, registry_bytes, read_registry, view_registry_read, no_registry, is_backer, well_registry};
+ghost use Rattle.registry_state.specs.States.{view_registry, registry_bytes, read_registry, no_registry, is_backer, well_registry};
 
-use crate::{RegistryRead, RegistryState};
+use crate::RegistryState;
 use cesr::{Matter, Said};
 use cesr_sn::Sn;
 use codec::section::{pass_prefixes, read_configs, read_prefixes};
-use codec::{Configs, Cursor};
+use codec::{Configs, Cursor, Read};
 use events::Members;
 use events_toad::Toad;
 use registry_bytes::writer::{state_size, write_registry};
@@ -82,8 +83,8 @@ impl RegistryState {
     }
 
     // What is read is well formed, and its counts are within the limits even where it is not all there.
-    pub fn read(c: Cursor, s: &[u8]) -> RegistryRead
-        ensures read { view_registry_read result ≡ read_registry s.now c }
+    pub fn read(c: Cursor, s: &[u8]) -> Read<RegistryState>
+        ensures read { viewed view_registry result ≡ read_registry s.now c }
         ensures well { result.next.ok ≡ true → well_registry result.value ≡ true }
         ensures counts { (result.value.configs.count ≤ 8) × (result.value.backers.count ≤ 16) }
     {
@@ -111,7 +112,7 @@ impl RegistryState {
             configs,
             backers,
         };
-        RegistryRead { value, next }
+        Read { value, next }
     }
 }
 

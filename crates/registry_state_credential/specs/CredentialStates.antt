@@ -4,10 +4,10 @@ use Rattle.cesr.specs.Primitives.{none, is_said, said_at}
 use Rattle.cesr.specs.declared.Said.{Said}
 use Rattle.cesr_sn.specs.Numbers.{sn_bytes}
 use Rattle.cesr_sn.specs.declared.Sn.{Sn}
-use Rattle.codec_cursor.specs.Readers.{Read, Reader, read_number, read_said, mapped, both}
+use Rattle.codec_cursor.specs.Readers.{Reader, read_number, read_said, mapped, both}
+use Rattle.codec_cursor.specs.declared.Read.{Read}
 use Rattle.codec_laws.specs.Layout.{said_bytes, is_matter, good_said, good_sn}
 use Rattle.registry_state_credential.specs.declared.CredentialState.{CredentialState}
-use Rattle.registry_state_credential.specs.declared.CredentialRead.{CredentialRead}
 use Rattle.registry_state_credential.specs.declared.CredentialAt.{CredentialAt}
 
 -- a credential state: registry, credential, sn, head
@@ -40,9 +40,6 @@ no_credential =
     { registry = record { 0 = none }; credential = record { 0 = none }; sn = record { hi = 0; lo = 0 }; head = record { 0 = none } }
 
 -- what the struct of the code stands for
-abbrev pub view_credential_read : CredentialRead → Read CredentialState
-view_credential_read r = record { value = r.value; next = r.next }
-
 -- the state that stands at these places
 abbrev pub credential_at : List ℕ → CredentialAt → CredentialState
 credential_at s r = record { registry = said_at s r.registry; credential = said_at s r.credential; sn = r.sn; head = said_at s r.head }

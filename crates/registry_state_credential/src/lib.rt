@@ -17,12 +17,6 @@ pub struct CredentialState {
     pub head: Said,
 }
 
-#[derive(Clone, Copy)]
-pub struct CredentialRead {
-    pub value: CredentialState,
-    pub next: Cursor,
-}
-
 // A state that stays in its bytes: where its digests stand, and its sn.
 #[derive(Clone, Copy)]
 pub struct CredentialAt {

@@ -1,12 +1,12 @@
 // The state of a credential. It holds numbers alone, since a host lends it as memory and every pattern of bits has to be a value.
 ghost use Rattle.std.specs.Prelude.{◌≡◌};
 ghost use Rattle.laws.specs.Room.{room, put};
-ghost use Rattle.registry_state_credential.specs.CredentialStates.{credential_bytes, read_credential, view_credential_read, view_credential_at, no_credential, well_credential};
+ghost use Rattle.registry_state_credential.specs.CredentialStates.{credential_bytes, read_credential, view_credential_at, no_credential, well_credential};
 
-use crate::{CredentialAt, CredentialRead, CredentialState};
+use crate::{CredentialAt, CredentialState};
 use cesr::{Matter, Said};
 use cesr_sn::Sn;
-use codec_cursor::Cursor;
+use codec_cursor::{Cursor, Read};
 use registry_head::head::write_credential;
 
 impl CredentialState {
@@ -44,8 +44,8 @@ impl CredentialState {
         )
     }
 
-    pub fn read(c: Cursor, s: &[u8]) -> CredentialRead
-        ensures { view_credential_read result ≡ read_credential s.now c }
+    pub fn read(c: Cursor, s: &[u8]) -> Read<CredentialState>
+        ensures { result ≡ read_credential s.now c }
     {
         let registry = c.said(s);
         let credential = registry.next.said(s);
@@ -62,7 +62,7 @@ impl CredentialState {
             sn,
             head,
         };
-        CredentialRead { value, next }
+        Read { value, next }
     }
 }
 

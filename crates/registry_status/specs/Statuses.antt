@@ -3,7 +3,8 @@ use Rattle.std.specs.Prelude.{ℕ, List, [], ◌∷◌, ◌++◌, Bool, true, co
 use Rattle.cesr.specs.Primitives.{matter_bytes}
 use Rattle.cesr.specs.declared.Matter.{Matter}
 use Rattle.cesr.specs.declared.Said.{Said}
-use Rattle.codec_cursor.specs.Readers.{Read, Reader, starting, need, read_byte, read_identifier, read_said, mapped, both, section}
+use Rattle.codec_cursor.specs.Readers.{Reader, starting, need, read_byte, read_identifier, read_said, mapped, both, section}
+use Rattle.codec_cursor.specs.declared.Read.{Read}
 use Rattle.codec.specs.Layout.{section_bytes, all, said_bytes, good_said, good_identifier}
 use Rattle.registry_state_credential.specs.declared.CredentialState.{CredentialState}
 use Rattle.registry_status.specs.declared.StatusInput.{StatusInput}

@@ -18,8 +18,10 @@ use Rattle.laws.specs.Count.{count}
 use Rattle.laws.proofs.Count.{count_same, count-more, count_none}
 use Rattle.laws.proofs.Tests.{and_left, and_right}
 use Rattle.codec_cursor.specs.declared.Cursor.{Cursor}
-use Rattle.codec_cursor.specs.Readers.{Read, times}
-use Rattle.registry_signatures.specs.SignatureSections.{Signature, read_signature}
+use Rattle.codec_cursor.specs.Readers.{times}
+use Rattle.codec_cursor.specs.declared.Read.{Read}
+use Rattle.registry_signatures.specs.SignatureSections.{read_signature}
+use Rattle.registry_signatures.specs.declared.Signature.{Signature}
 use Rattle.registry_verification.specs.Receipts.{has_good, receipts, Marks, marked}
 
 -- a bit as a mark

@@ -1,7 +1,7 @@
 -- Receipts of backers (docs/RULES.md, "Receipts").
 use Rattle.std.specs.Prelude.{ℕ, ◌+◌, List, [], ◌∷◌, Bool, false, cond, ◌&&◌, ◌||◌, eqb, ltb, get_or, set}
 use Rattle.laws.specs.Count.{count}
-use Rattle.registry_signatures.specs.SignatureSections.{Signature}
+use Rattle.registry_signatures.specs.declared.Signature.{Signature}
 
 -- whether an index has a good signature
 unfoldable pub has_good : ℕ → List Signature → Bool

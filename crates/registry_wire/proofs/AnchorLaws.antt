@@ -22,7 +22,8 @@ use Rattle.cesr_sn.specs.declared.Sn.{Sn}
 use Rattle.cesr.specs.declared.Matter.{Matter}
 use Rattle.cesr.specs.declared.Said.{Said}
 use Rattle.cesr.proofs.Matters.{length-matter}
-use Rattle.codec_cursor.specs.Readers.{placed, Read, starting, read_number, read_if, read_identifier, read_said}
+use Rattle.codec_cursor.specs.Readers.{placed, starting, read_number, read_if, read_identifier, read_said}
+use Rattle.codec_cursor.specs.declared.Read.{Read}
 use Rattle.codec.specs.Layout.{joined, section_bytes, all, said_bytes, seal_bytes, good_identifier, good_sn, good_said, good_seal}
 use Rattle.registry_seals.proofs.Stands.{Stands, stands-first, stands-rest, whole-stands}
 use Rattle.registry_seals.proofs.Codes.{codes-sn, codes-said, codes-identifier}

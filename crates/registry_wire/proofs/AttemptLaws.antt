@@ -18,7 +18,8 @@ use Rattle.cesr.specs.Primitives.{read_matter}
 use Rattle.cesr.proofs.Matters.{length-matter}
 use Rattle.codec.specs.TelEvents.{Event}
 use Rattle.codec_cursor.specs.declared.Cursor.{Cursor}
-use Rattle.codec_cursor.specs.Readers.{placed, Read, starting, need, read_byte, read_if, read_identifier, counted, times, count_up_to, section}
+use Rattle.codec_cursor.specs.Readers.{placed, starting, need, read_byte, read_if, read_identifier, counted, times, count_up_to, section}
+use Rattle.codec_cursor.specs.declared.Read.{Read}
 use Rattle.codec.specs.Events.{read_event}
 use Rattle.codec.specs.Layout.{joined}
 use Rattle.codec.proofs.Loops.{count-within}
@@ -32,9 +33,8 @@ use Rattle.registry_wire.specs.Attempts.Evidence.{missing, issuer, backer}
 use Rattle.registry_wire.specs.Attempts.Decoded.{malformed, decoded}
 use Rattle.registry_source.specs.declared.Source.{Source}
 use Rattle.registry_wire.specs.declared.Part.{Part}
-use Rattle.registry_wire.specs.declared.AnchorsRead.{AnchorsRead}
+use Rattle.registry_signatures.specs.declared.Counted.{Counted}
 use Rattle.registry_wire.specs.declared.EvidenceRead.{EvidenceRead}
-use Rattle.registry_signatures.specs.declared.SignaturesRead.{SignaturesRead}
 use Rattle.registry_wire.proofs.CodesAttempt.{codes-anchor, codes-signature, codes-evidence}
 
 -- a cursor that has not stopped is its place
@@ -101,17 +101,17 @@ unfolding part_of anchors_in joined
 nothing-held s = refl
 
 module _ (s : List ℕ) (c : Cursor) where
-  pub issuer-read : Bytes s → (d : Cursor) (a : AnchorsRead) (g : Cursor) → d ≡ (read_identifier s c).next → a ≡ passed_anchors s d → ReadAs s (record { kind = 1; issuer = c.at; carried = a.value; management = g; next = a.next }) (read_issuer s c)
+  pub issuer-read : Bytes s → (d : Cursor) (a : Read Part) (g : Cursor) → d ≡ (read_identifier s c).next → a ≡ passed_anchors s d → ReadAs s (record { kind = 1; issuer = c.at; carried = a.value; management = g; next = a.next }) (read_issuer s c)
   unfolding read_issuer read_identifier read_if evidence_of passed_anchors
   issuer-read b d a g ed ea =
-      let n : a.next ≡ (read_anchors s d).next = ap (λ (x : AnchorsRead). x.next) ea in
+      let n : a.next ≡ (read_anchors s d).next = ap (λ (x : Read Part). x.next) ea in
       record {
         next = rw (← ed) n;
         value = λ h.
             rw (← ed)
             (ap (issuer (read_matter s c.at))
-            (ap (λ (x : AnchorsRead). anchors_in s x.value) ea ∙ anchors-in s d b (rw n at h)));
-        holds = λ h. subst (λ (x : AnchorsRead). Holds s x.value) (sym ea) (anchors-hold s d b (rw n at h));
+            (ap (λ (x : Read Part). anchors_in s x.value) ea ∙ anchors-in s d b (rw n at h)));
+        holds = λ h. subst (λ (x : Read Part). Holds s x.value) (sym ea) (anchors-hold s d b (rw n at h));
       }
 
   pub state-read : (d : Cursor) (m : ℕ) → d ≡ (read_registry s c).next → ReadAs s (record { kind = 3; issuer = m; carried = nothing; management = c; next = d }) (read_backer_at s c)
@@ -159,7 +159,7 @@ module _ (s : List ℕ) where
       (where-true v.next.ok _ _ _
       (λ h. rw (anchors-in s anchor-at b (signature-ok b v r h), signatures-in s signature_at b (count-ok b v r h), r.value h)))
 
-  module _ (b : Bytes s) (e : Read Event) (o : Read (List Source)) (a : AnchorsRead) (g : SignaturesRead) (d : Cursor) (v : EvidenceRead) (ee : e ≡ read_event s starting) (eo : o ≡ section 1 read_source s e.next) (ea : a ≡ passed_anchors s o.next) (eg : g ≡ passed_signatures s a.next) (ed : d ≡ counted 1 s g.next) (r : ReadAs s v (read_evidence s d)) where
+  module _ (b : Bytes s) (e : Read Event) (o : Read (List Source)) (a : Read Part) (g : Read Counted) (d : Cursor) (v : EvidenceRead) (ee : e ≡ read_event s starting) (eo : o ≡ section 1 read_source s e.next) (ea : a ≡ passed_anchors s o.next) (eg : g ≡ passed_signatures s a.next) (ed : d ≡ counted 1 s g.next) (r : ReadAs s v (read_evidence s d)) where
     last-read : ReadAs s v (read_evidence s evidence-at)
     unfolding passed_anchors passed_signatures
     last-read = rw (ed, eg, ea, eo, ee) at r

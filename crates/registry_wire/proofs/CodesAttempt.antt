@@ -30,7 +30,8 @@ use Rattle.registry_seals.proofs.CodesRound.{whole-sound, whole-complete}
 use Rattle.registry_state.specs.States.{registry_bytes, read_registry}
 use Rattle.registry_source.specs.Sources.{source_bytes, good_source, source_of, read_source}
 use Rattle.registry_wire.specs.Attempts.{Anchor, Evidence, Message, anchor_bytes, evidence_bytes, attempt_bytes, good_anchor, good_anchors, good_evidence, good_message, read_seals, anchor_of, read_anchor, read_anchors, issuer_of, read_issuer, read_backer_at, read_evidence, message_of, read_message, decode_of}
-use Rattle.registry_signatures.specs.SignatureSections.{Signature, signature_bytes, good_signature, signature_of, read_signature}
+use Rattle.registry_signatures.specs.SignatureSections.{signature_bytes, good_signature, signature_of, read_signature}
+use Rattle.registry_signatures.specs.declared.Signature.{Signature}
 use Rattle.registry_wire.specs.Attempts.Evidence.{missing, issuer, backer, backer_at}
 use Rattle.registry_wire.specs.Attempts.Decoded.{malformed, decoded}
 use Rattle.registry_source.specs.declared.Source.{Source}

@@ -8,17 +8,18 @@ use Rattle.cesr.specs.declared.Said.{Said}
 use Rattle.codec.specs.TelEvents.{Event, view_event}
 use Rattle.events_seal.specs.declared.Seal.{Seal}
 use Rattle.codec_cursor.specs.declared.Cursor.{Cursor}
-use Rattle.codec_cursor.specs.Readers.{Read, Reader, placed, starting, need, read_byte, read_number, read_identifier, read_said, mapped, both, after, count_up_to, section}
+use Rattle.codec_cursor.specs.Readers.{Reader, placed, starting, need, read_byte, read_number, read_identifier, read_said, mapped, both, after, count_up_to, section}
+use Rattle.codec_cursor.specs.declared.Read.{Read}
 use Rattle.codec.specs.Events.{read_seal, read_event}
 use Rattle.codec.specs.Layout.{joined, section_bytes, all, said_bytes, seal_bytes, event_bytes, good_said, good_identifier, good_sn, good_seal, good_event}
 use Rattle.registry_state.specs.States.{Registry, registry_bytes, good_registry, read_registry}
 use Rattle.registry_source.specs.Sources.{source_bytes, good_source, read_source}
 use Rattle.registry_source.specs.declared.Source.{Source}
-use Rattle.registry_signatures.specs.SignatureSections.{Signature, signature_bytes, good_signature, read_signature, signatures_in}
+use Rattle.registry_signatures.specs.SignatureSections.{signature_bytes, good_signature, read_signature, signatures_in}
+use Rattle.registry_signatures.specs.declared.Signature.{Signature}
 use Rattle.registry_wire.specs.declared.Part.{Part}
 use Rattle.registry_wire.specs.declared.DecodedAttempt.{DecodedAttempt}
 use Rattle.registry_wire.specs.declared.Attempt.{Attempt}
-use Rattle.registry_wire.specs.declared.AnchorsRead.{AnchorsRead}
 use Rattle.registry_wire.specs.declared.EvidenceRead.{EvidenceRead}
 
 -- an anchoring event
@@ -160,7 +161,7 @@ chosen_anchors [] message = message
 chosen_anchors (x ∷ l) message = x ∷ l
 
 -- where a section's anchoring event stands, behind the count byte, and the cursor behind them
-unfoldable pub passed_anchors : List ℕ → Cursor → AnchorsRead
+unfoldable pub passed_anchors : Reader Part
 passed_anchors s c = record { value = record { from = (count_up_to 1 s c).next.at; to = (read_anchors s c).next.at }; next = (read_anchors s c).next }
 
 -- the bytes of a part

@@ -6,7 +6,7 @@ ghost use Rattle.registry_wire.specs.Attempts.{read_anchor, read_issuer, read_ba
 
 use codec::TelEvent;
 use codec::section::count_up_to;
-use codec_cursor::Cursor;
+use codec_cursor::{Cursor, Read};
 use codec_seal::seal::pass_seals;
 use codec_tel::tel::read_event;
 use registry_signatures::Counted;
@@ -45,12 +45,6 @@ pub struct Attempt {
 pub struct DecodedAttempt {
     pub ok: bool,
     pub attempt: Attempt,
-}
-
-#[derive(Clone, Copy)]
-struct AnchorsRead {
-    value: Part,
-    next: Cursor,
 }
 
 // Evidence, in the fields of an attempt. Those that its kind has no use for are blank.
@@ -94,20 +88,20 @@ fn pass_anchor(c: Cursor, s: &[u8]) -> Cursor
 }
 
 // Behind a section of at most one anchoring event. It stays in the bytes; its part is empty where there is none.
-fn pass_anchors(c: Cursor, s: &[u8]) -> AnchorsRead
+fn pass_anchors(c: Cursor, s: &[u8]) -> Read<Part>
     ensures { result ≡ passed_anchors s.now c }
 {
     let n = count_up_to(c, s, 1);
     let start = n.next;
     let from = start.at;
     if n.value == 0 {
-        return AnchorsRead {
+        return Read {
             value: Part { from, to: from },
             next: start,
         };
     }
     let next = pass_anchor(start, s);
-    AnchorsRead {
+    Read {
         value: Part { from, to: next.at },
         next,
     }

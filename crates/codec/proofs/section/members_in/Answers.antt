@@ -3,7 +3,8 @@ use mathlib.Core.Path.{ap, ◌∙◌}
 use mathlib.Core.List.{List}
 use native.Mathlib.Omega.{arith}
 use Rattle.events.specs.declared.BasicPrefix.{BasicPrefix}
-use Rattle.events_tel.specs.Readers.{Read, read_prefix, times}
+use Rattle.events_tel.specs.Readers.{read_prefix, times}
+use Rattle.events_tel.specs.declared.Read.{Read}
 use Rattle.events_tel.specs.TelEvents.{members_in}
 use Rattle.codec.proofs.section.members_in.Goals as goal
 

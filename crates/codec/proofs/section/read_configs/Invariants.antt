@@ -2,7 +2,8 @@ use Prim.Native.Nat.{ℕ, ◌≤◌, ◌-◌}
 use mathlib.Core.Path.{◌≡◌}
 use mathlib.Core.List.{List}
 use Rattle.events_tel.specs.Configs.{view_configs}
-use Rattle.events_tel.specs.Readers.{Read, times}
+use Rattle.events_tel.specs.Readers.{times}
+use Rattle.events_tel.specs.declared.Read.{Read}
 use Rattle.codec.specs.Events.{read_config}
 use Rattle.codec.proofs.section.read_configs.Given as goal
 

@@ -3,7 +3,8 @@ use mathlib.Core.Path.{◌≡◌}
 use mathlib.Core.List.{List}
 use lib.ListN.{length, take}
 use Rattle.events.specs.declared.BasicPrefix.{BasicPrefix}
-use Rattle.events_tel.specs.Readers.{Read, read_prefix, times}
+use Rattle.events_tel.specs.Readers.{read_prefix, times}
+use Rattle.events_tel.specs.declared.Read.{Read}
 use Rattle.codec.proofs.section.read_members.Given as goal
 
 abbrev pub invariant-loop-i : goal.invariant-loop-i

@@ -4,7 +4,6 @@ use native.Mathlib.Omega.{arith}
 use borrow.Author.Rules.{rules}
 use lib.ListN.{length}
 use Rattle.codec_cursor.specs.Readers.{times}
-use Rattle.codec.specs.Events.{view_count_read}
 use Rattle.ledger_image.specs.Images.{wide_count}
 use Rattle.ledger_image_rows_check.specs.IdLists.{view_ids}
 use Rattle.ledger_image_rows_check.proofs.IdViews.{pushed_room}
@@ -36,4 +35,4 @@ loop-i-preserved c =
     )
 
 pub returns : goal.returns
-returns c = let both = section-end _ (view_count_read c.read_count-section.result) (c.read_count-section.ensures ∙ ap (wide_count 16 _) c.start.ensures) _ (omega arith) _ _ _ c.loop-i.invariant.1 in record { ok = both.0; ids = both.1.0; next = both.1.1 }
+returns c = let both = section-end _ c.read_count-section.result (c.read_count-section.ensures ∙ ap (wide_count 16 _) c.start.ensures) _ (omega arith) _ _ _ c.loop-i.invariant.1 in record { ok = both.0; ids = both.1.0; next = both.1.1 }

@@ -1,5 +1,4 @@
 use Rattle.cesr_sn.specs.Numbers.{value}
-use Rattle.registry_state_credential.specs.CredentialStates.{view_credential_read}
 use Rattle.ledger_image_rows_check.proofs.MarkLaws.{row-tested-near}
 use Rattle.ledger_image_rows_check.proofs.rows.row_passes.Goals as goal
 
@@ -7,4 +6,4 @@ pub returns : goal.returns
 unfolding value
 returns c =
     let p = c.requires in
-    row-tested-near _ _ _ _ _ (view_credential_read c.read-row.result) _ _ _ p.0 p.1 c.read-row.ensures c.contains-home.ensures c.less-low.ensures c.has_key.ensures
+    row-tested-near _ _ _ _ _ c.read-row.result _ _ _ p.0 p.1 c.read-row.ensures c.contains-home.ensures c.less-low.ensures c.has_key.ensures

@@ -1,5 +1,5 @@
 use mathlib.Core.Path.{ap, ◌∙◌}
-use Rattle.codec_cursor.specs.Readers.{Read}
+use Rattle.codec_cursor.specs.declared.Read.{Read}
 use Rattle.registry_state.specs.States.{Registry}
 use Rattle.ledger_sections.specs.RegistrySections.{held_read}
 use Rattle.ledger_sections.proofs.SectionReads.{counted-held}

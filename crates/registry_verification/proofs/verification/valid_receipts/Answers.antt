@@ -7,7 +7,8 @@ use lib.ListN.{get_or-replicate}
 use borrow.Author.Tests.{ltb-true}
 use Rattle.laws.proofs.Tests.{and_left}
 use Rattle.codec_cursor.specs.Readers.{placed, times}
-use Rattle.registry_signatures.specs.SignatureSections.{Signature, read_signature, signatures_in}
+use Rattle.registry_signatures.specs.SignatureSections.{read_signature, signatures_in}
+use Rattle.registry_signatures.specs.declared.Signature.{Signature}
 use Rattle.registry_verification.specs.Receipts.{receipts, Marks}
 use Rattle.registry_verification.proofs.Marked.{Marked, no-marks, marked-set, marked-twice, marked-bad, receipts-below, walk_turn}
 use borrow.Author.Rules.{rules}
