@@ -4,4 +4,4 @@
 pub mod sequence;
 pub mod verification;
 
-pub use registry_signatures::Counted;
+pub use registry_signatures::{Counted, Signature};
