@@ -6,15 +6,12 @@ use Rattle.events_tel.specs.declared.Toad.{Toad}
 use Rattle.events.specs.declared.Matter.{Matter}
 use Rattle.events.specs.declared.Said.{Said}
 use Rattle.events.specs.declared.BasicPrefix.{BasicPrefix}
-use Rattle.events_tel.specs.Configs.{view_configs}
 use Rattle.events_tel.specs.Identifiers.{identifier_of}
-use Rattle.events.specs.Members.{view}
-use Rattle.events_tel.specs.TelEvents.{Event, members_in}
+use Rattle.events_tel.specs.TelEvents.{Event}
 use Rattle.events_tel.specs.TelEvents.Event.{vcp, vrt, iss, rev, bis, brv}
 use Rattle.events_tel.specs.declared.Seal.{Seal}
 use Rattle.events_tel.specs.declared.Seal.TheVariants.{Digest, Root, Source, Event as EventSeal, Last, Back, Kind, Opaque}
 use Rattle.events_tel.specs.Readers.{Reader, need, read_byte, read_byte_if, read_number, read_identifier, read_said, read_prefix, mapped, both, after, ended, section}
-use Rattle.events_tel.specs.declared.Read.{Read}
 
 -- a config byte is 1 to 6
 unfoldable pub is_config : ℕ → Bool

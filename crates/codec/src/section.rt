@@ -4,7 +4,7 @@ ghost use Rattle.events.specs.Members.{view};
 ghost use Rattle.events_tel.specs.TelEvents.{members_in};
 ghost use Rattle.events_tel.specs.Readers.{viewed, count_up_to, times, read_prefix};
 ghost use Rattle.events_tel.specs.Configs.{view_configs};
-ghost use Rattle.codec.specs.Events.{read_config, read_configs, read_prefixes, read_toad, toad_value};
+ghost use Rattle.codec.specs.Events.{is_config, read_config, read_configs, read_prefixes, read_toad, toad_value};
 
 use events::{BasicPrefix, Matter, Members};
 use events_tel::{Configs, Cursor, Listed, Read, Sn, Toad};
@@ -15,22 +15,24 @@ pub fn count_up_to(c: Cursor, s: &[u8], limit: u8) -> Read<usize>
 {
     let b = c.byte(s);
     let next = b.next.expect_that(b.value <= limit);
-    if next.ok {
-        return Read {
-            value: b.value as usize,
-            next,
-        };
-    }
-    Read { value: 0, next }
+    let value = if next.ok { b.value as usize } else { 0 };
+    Read { value, next }
 }
 
-// A config byte: 1 to 6.
+// A config byte is 1 to 6.
+#[tactic(auto, unfolding(crate::specs::Events::is_config))]
+pub fn is_config(b: u8) -> bool
+    ensures { result ≡ is_config b }
+{
+    (1..=6).contains(&b)
+}
+
 pub fn read_config(c: Cursor, s: &[u8]) -> Read<u8>
     ensures { result ≡ read_config s.now c }
 {
     let b = c.byte(s);
     let value = b.value;
-    let next = b.next.expect_that((1 <= value) & (value <= 6));
+    let next = b.next.expect_that(is_config(value));
     Read { value, next }
 }
 
@@ -41,12 +43,11 @@ pub fn read_configs(c: Cursor, s: &[u8]) -> Read<Configs>
     let count = n.value;
     let mut next = n.next;
     let mut value = Configs::empty();
-    let mut i: usize = 0;
-    while i < count {
+    for _i in 0..count {
         let b = read_config(next, s);
-        value = value.push(b.value).configs;
+        // There is room for 8.
+        let _ = value.push(b.value);
         next = b.next;
-        i += 1;
     }
     Read { value, next }
 }
@@ -60,13 +61,10 @@ fn read_members(c: Cursor, s: &[u8], count: usize) -> Read<Members>
     let none = BasicPrefix(Matter::none());
     let mut items = [none; 16];
     let mut next = c;
-    let mut i: usize = 0;
-    while i < count {
+    for i in 0..count {
         let p = next.prefix(s);
-        let prefix = p.value;
-        items[i] = prefix;
+        items[i] = p.value;
         next = p.next;
-        i += 1;
     }
     let value = Members { items, count };
     Read { value, next }
@@ -87,11 +85,9 @@ pub fn pass_prefixes(c: Cursor, s: &[u8]) -> Read<Listed>
     let listed = count_up_to(c, s, 16);
     let count = listed.value;
     let start = listed.next;
-    let mut next = listed.next;
-    let mut i: usize = 0;
-    while i < count {
+    let mut next = start;
+    for _i in 0..count {
         next = next.pass_prefix(s);
-        i += 1;
     }
     Read {
         value: Listed { count, start },
@@ -103,7 +99,7 @@ pub fn pass_prefixes(c: Cursor, s: &[u8]) -> Read<Listed>
 pub fn at_most_16(n: usize) -> usize
     ensures { result ≡ min n 16 }
 {
-    if 16 < n { 16 } else { n }
+    n.min(16)
 }
 
 // The prefixes of a list that stays in the bytes.

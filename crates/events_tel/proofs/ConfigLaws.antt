@@ -3,24 +3,26 @@
 --     view-size, view-at        the list that a struct holds
 --     room-below, room-full     when there is room for one more
 --     view-push, view-full      what becomes of the list
---     has-at, has-none          how a loop finds a byte in a list
-use Prim.Native.Nat.{ℕ, zero, suc, ◌+◌, ◌<◌, ◌≤◌, min}
+--     pointwise_same, any_has   what the library's tests of slices say of them
+use Prim.Native.Nat.{ℕ, ◌+◌, ◌<◌, ◌≤◌, min}
 use mathlib.Core.Path.{◌≡◌, refl}
-use mathlib.Core.Bool.{Bool, true, false, cond, ◌||◌}
+use mathlib.Core.Bool.{Bool, true, false, cond}
+use Rattle.std.specs.Prelude.{Option, Some}
 use mathlib.Core.List.{List, [], ◌∷◌}
 use native.Mathlib.Omega.{arith}
-use borrow.Author.Tests.{lt-ltb, le-ltb, eq-eqb, ne_eqb, eqb-true}
+use borrow.Author.Tests.{lt-ltb, le-ltb, eqb-true}
 use lib.Dec.{eqb}
 use lib.ListN.{length, get_or, set}
+use Rattle.std.specs.Cmp.Lexicographic.{pointwise}
+use Rattle.std.specs.List.{list_any}
+use Rattle.codec_cursor.specs.Words.{same_list}
 use Rattle.codec_cursor.proofs.Views.{kept-size, kept_at, kept_push}
 use Rattle.events_tel.specs.declared.Configs.{Configs}
 use Rattle.events_tel.specs.declared.ConfigTrait.{ConfigTrait}
 use Rattle.events_tel.specs.declared.ConfigTrait.TheVariants.{EstOnly, DoNotDelegate, NoBackers, RegistrarBackers, NoRegistrarBackers, DelegateIsDelegator}
-use Rattle.events_tel.specs.declared.TraitRead.{TraitRead}
-use Rattle.events_tel.specs.declared.TraitRead.TheVariants.{Trait}
 use Rattle.events_tel.specs.Configs.{code_of, trait_of, view_configs, has_room, pushed, has_code}
 
-pub trait-code : (t : ConfigTrait) → trait_of (code_of t) ≡ Trait t
+pub trait-code : (t : ConfigTrait) → trait_of (code_of t) ≡ Some t
 unfolding trait_of
 trait-code EstOnly = refl
 trait-code DoNotDelegate = refl
@@ -29,7 +31,7 @@ trait-code RegistrarBackers = refl
 trait-code NoRegistrarBackers = refl
 trait-code DelegateIsDelegator = refl
 
-pub code-trait : (n : ℕ) (t : ConfigTrait) → trait_of n ≡ Trait t → code_of t ≡ n
+pub code-trait : (n : ℕ) (t : ConfigTrait) → trait_of n ≡ Some t → code_of t ≡ n
 unfolding trait_of
 code-trait n t =
     step 1 EstOnly _ refl
@@ -41,10 +43,10 @@ code-trait n t =
     (λ e. cc))))))
   where
     -- one test of the chain
-    step : (k : ℕ) (u : ConfigTrait) (rest : TraitRead) → code_of u ≡ k → (rest ≡ Trait t → code_of t ≡ n) → cond (eqb n k) (Trait u) rest ≡ Trait t → code_of t ≡ n
+    step : (k : ℕ) (u : ConfigTrait) (rest : Option ConfigTrait) → code_of u ≡ k → (rest ≡ Some t → code_of t ≡ n) → cond (eqb n k) (Some u) rest ≡ Some t → code_of t ≡ n
     step k u rest d h = go (eqb n k) refl
       where
-        go : (b : Bool) → eqb n k ≡ b → cond b (Trait u) rest ≡ Trait t → code_of t ≡ n
+        go : (b : Bool) → eqb n k ≡ b → cond b (Some u) rest ≡ Some t → code_of t ≡ n
         go true q e = let p : n ≡ k = eqb-true n k q in cc
         go false q e = h e
 
@@ -73,19 +75,16 @@ module _ (c : Configs) (h : length c.codes ≡ 8) where
   unfolding pushed
   view-full x b = rw (room-full b)
 
--- found at a place
-pub has-at : (code : ℕ) (l : List ℕ) (i : ℕ) → i < length l → get_or l i 0 ≡ code → has_code code l ≡ true
-unfolding has_code
-has-at code [] i b e = absurd (omega arith)
-has-at code (x ∷ l) zero b e = rw (eq-eqb x code e)
-has-at code (x ∷ l) (suc i) b e = rw (has-at code l i (omega arith) e) (or-true (eqb x code))
-  where
-    or-true : (b : Bool) → (b || true) ≡ true
-    or-true true = refl
-    or-true false = refl
+-- the library's test of two slices
+pub pointwise_same : (a b : List ℕ) → pointwise eqb a b ≡ same_list a b
+unfolding same_list
+pointwise_same [] [] = refl
+pointwise_same [] (y ∷ b) = refl
+pointwise_same (x ∷ a) [] = refl
+pointwise_same (x ∷ a) (y ∷ b) = rw (pointwise_same a b)
 
--- at no place
-pub has-none : (code : ℕ) (l : List ℕ) → ((i : ℕ) → i < length l → get_or l i 0 ≡ code → ⊥) → has_code code l ≡ false
+-- the library's test whether a byte is in a slice
+pub any_has : (code : ℕ) (l : List ℕ) → list_any (λ x. eqb x code) l ≡ has_code code l
 unfolding has_code
-has-none code [] h = refl
-has-none code (x ∷ l) h = rw (ne_eqb x code (h 0 (omega arith)), has-none code l (λ i b. h (suc i) (omega arith)))
+any_has code [] = refl
+any_has code (x ∷ l) = rw (any_has code l)

@@ -1,10 +1,8 @@
 -- Configuration traits, and lists of their bytes (docs/RULES.md, "Configuration traits").
-use Rattle.std.specs.Prelude.{ℕ, List, [], ◌∷◌, ◌++◌, Bool, false, cond, ◌||◌, length, take, eqb, ltb}
+use Rattle.std.specs.Prelude.{ℕ, Option, Some, None, List, [], ◌∷◌, ◌++◌, Bool, false, cond, ◌||◌, length, take, eqb, ltb}
 use Rattle.events_tel.specs.declared.Configs.{Configs}
 use Rattle.events_tel.specs.declared.ConfigTrait.{ConfigTrait}
 use Rattle.events_tel.specs.declared.ConfigTrait.TheVariants.{EstOnly, DoNotDelegate, NoBackers, RegistrarBackers, NoRegistrarBackers, DelegateIsDelegator}
-use Rattle.events_tel.specs.declared.TraitRead.{TraitRead}
-use Rattle.events_tel.specs.declared.TraitRead.TheVariants.{Trait, UnknownConfigTrait}
 
 -- a trait's byte is its place
 abbrev pub code_of : ConfigTrait → ℕ
@@ -15,15 +13,15 @@ code_of RegistrarBackers = 4
 code_of NoRegistrarBackers = 5
 code_of DelegateIsDelegator = 6
 
-unfoldable pub trait_of : ℕ → TraitRead
+unfoldable pub trait_of : ℕ → Option ConfigTrait
 trait_of n =
-    cond (eqb n 1) (Trait EstOnly)
-    (cond (eqb n 2) (Trait DoNotDelegate)
-    (cond (eqb n 3) (Trait NoBackers)
-    (cond (eqb n 4) (Trait RegistrarBackers)
-    (cond (eqb n 5) (Trait NoRegistrarBackers)
-    (cond (eqb n 6) (Trait DelegateIsDelegator)
-    UnknownConfigTrait)))))
+    cond (eqb n 1) (Some EstOnly)
+    (cond (eqb n 2) (Some DoNotDelegate)
+    (cond (eqb n 3) (Some NoBackers)
+    (cond (eqb n 4) (Some RegistrarBackers)
+    (cond (eqb n 5) (Some NoRegistrarBackers)
+    (cond (eqb n 6) (Some DelegateIsDelegator)
+    None)))))
 
 -- the bytes as a list: as many as are counted, and never more than 8
 unfoldable pub view_configs : Configs → List ℕ

@@ -1,35 +1,29 @@
 // Configuration traits, and lists of their bytes (docs/RULES.md, "Configuration traits").
-ghost use Rattle.std.specs.Prelude.{◌≡◌, ◌≤◌, false, [], length, get_or};
+ghost use Rattle.std.specs.Prelude.{◌≡◌, ◌≤◌, [], length, get_or, is_ok, OnErr};
 ghost use Rattle.codec_cursor.specs.Words.{same_list};
 ghost use Rattle.events_tel.specs.Configs.{code_of, trait_of, view_configs, has_room, pushed, has_code, no_backers};
 
-use crate::{ConfigTrait, Configs, PushedConfig, TraitRead};
+use crate::{ConfigTrait, Configs, NoRoom};
 
 impl ConfigTrait {
     pub fn code(self) -> u8
         ensures { result ≡ code_of self }
     {
-        match self {
-            ConfigTrait::EstOnly => 1,
-            ConfigTrait::DoNotDelegate => 2,
-            ConfigTrait::NoBackers => 3,
-            ConfigTrait::RegistrarBackers => 4,
-            ConfigTrait::NoRegistrarBackers => 5,
-            ConfigTrait::DelegateIsDelegator => 6,
-        }
+        self as u8
     }
 
-    pub fn from_code(code: u8) -> TraitRead
+    #[tactic(auto, unfolding(crate::specs::Configs::trait_of))]
+    pub fn from_code(code: u8) -> Option<ConfigTrait>
         ensures { result ≡ trait_of code }
     {
         match code {
-            1 => TraitRead::Trait(ConfigTrait::EstOnly),
-            2 => TraitRead::Trait(ConfigTrait::DoNotDelegate),
-            3 => TraitRead::Trait(ConfigTrait::NoBackers),
-            4 => TraitRead::Trait(ConfigTrait::RegistrarBackers),
-            5 => TraitRead::Trait(ConfigTrait::NoRegistrarBackers),
-            6 => TraitRead::Trait(ConfigTrait::DelegateIsDelegator),
-            _ => TraitRead::UnknownConfigTrait,
+            1 => Some(ConfigTrait::EstOnly),
+            2 => Some(ConfigTrait::DoNotDelegate),
+            3 => Some(ConfigTrait::NoBackers),
+            4 => Some(ConfigTrait::RegistrarBackers),
+            5 => Some(ConfigTrait::NoRegistrarBackers),
+            6 => Some(ConfigTrait::DelegateIsDelegator),
+            _ => None,
         }
     }
 }
@@ -44,12 +38,19 @@ impl Configs {
         }
     }
 
-    // How many there are: at most 8, whatever the count says.
+    // The bytes that are counted: at most 8, whatever the count says.
+    pub fn as_slice(&self) -> &[u8]
+        ensures { result.now ≡ view_configs self.now }
+    {
+        let n = self.count.min(8);
+        &self.codes[..n]
+    }
+
+    // How many there are.
     pub fn size(self) -> usize
         ensures { result ≡ length (view_configs self) }
     {
-        let n = self.count;
-        if 8 < n { 8 } else { n }
+        self.as_slice().len()
     }
 
     // The same bytes, and no count past them.
@@ -65,49 +66,30 @@ impl Configs {
     pub fn item(self, i: usize) -> u8
         ensures { result ≡ get_or (view_configs self) i 0 }
     {
-        if i < self.size() {
-            return self.codes[i];
-        }
-        0
+        let codes = self.as_slice();
+        if i < codes.len() { codes[i] } else { 0 }
     }
 
-    pub fn push(self, code: u8) -> PushedConfig
-        ensures { (result.ok ≡ has_room (view_configs self)) × (view_configs result.configs ≡ pushed (view_configs self) code) × (result.ok ≡ false → result.configs ≡ self) }
+    // One more byte behind the last. Where there is no room the list stays as it was.
+    pub fn push(&mut self, code: u8) -> Result<(), NoRoom>
+        ensures ok { is_ok result ≡ has_room (view_configs self.old) }
+        ensures list { view_configs self.new ≡ pushed (view_configs self.old) code }
+        ensures kept { OnErr result (self.new ≡ self.old) }
     {
         let n = self.count;
-        if 8 <= n {
-            return PushedConfig {
-                ok: false,
-                configs: self,
-            };
+        if n < 8 {
+            self.codes[n] = code;
+            self.count = n + 1;
+            return Ok(());
         }
-        let mut codes = self.codes;
-        codes[n] = code;
-        PushedConfig {
-            ok: true,
-            configs: Configs {
-                codes,
-                count: n + 1,
-            },
-        }
+        Err(NoRoom)
     }
 
     // Equal as lists: order and repeats count, and what stands past the count does not.
     pub fn same(self, other: Configs) -> bool
         ensures { result ≡ same_list (view_configs self) (view_configs other) }
     {
-        let size = self.size();
-        if size != other.size() {
-            return false;
-        }
-        let mut i: usize = 0;
-        while i < size {
-            if self.item(i) != other.item(i) {
-                return false;
-            }
-            i += 1;
-        }
-        true
+        self.as_slice() == other.as_slice()
     }
 
     // Whether the trait NoBackers is in the list.
@@ -120,14 +102,6 @@ impl Configs {
     fn has(self, code: u8) -> bool
         ensures { result ≡ has_code code (view_configs self) }
     {
-        let n = self.size();
-        let mut i: usize = 0;
-        while i < n {
-            if self.item(i) == code {
-                return true;
-            }
-            i += 1;
-        }
-        false
+        self.as_slice().contains(&code)
     }
 }

@@ -12,7 +12,7 @@ pub use events_toad::Toad;
 #[derive(Clone, Copy)]
 pub enum ConfigTrait {
     // Establishment events alone.
-    EstOnly,
+    EstOnly = 1,
     DoNotDelegate,
     // No witnesses and no other backers.
     NoBackers,
@@ -21,12 +21,6 @@ pub enum ConfigTrait {
     NoRegistrarBackers,
     // The delegate's prefix is the delegator's.
     DelegateIsDelegator,
-}
-
-#[derive(Clone, Copy)]
-pub enum TraitRead {
-    Trait(ConfigTrait),
-    UnknownConfigTrait,
 }
 
 // A list of at most 8 config bytes, as it was handed in. They are kept as bytes, since a host lends them as memory and every
@@ -38,16 +32,13 @@ pub struct Configs {
     pub count: usize,
 }
 
-// A list with one more byte, or the list as it was where there is no room.
+// Nothing was stored: the list has 8 bytes.
 #[derive(Clone, Copy)]
-pub struct PushedConfig {
-    pub ok: bool,
-    pub configs: Configs,
-}
+pub struct NoRoom;
 
 #[derive(Clone, Copy)]
 pub enum Kind {
-    Vcp,
+    Vcp = 1,
     Vrt,
     Iss,
     Rev,

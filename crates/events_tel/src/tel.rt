@@ -10,14 +10,7 @@ impl Kind {
     pub fn number(self) -> u8
         ensures { result ≡ kind_number self }
     {
-        match self {
-            Kind::Vcp => 1,
-            Kind::Vrt => 2,
-            Kind::Iss => 3,
-            Kind::Rev => 4,
-            Kind::Bis => 5,
-            Kind::Brv => 6,
-        }
+        self as u8
     }
 
     // The sequence number of an event of this kind: a vrt has its own, a revocation 1, any other 0.

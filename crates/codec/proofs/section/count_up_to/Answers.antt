@@ -6,7 +6,7 @@ unfolding count_up_to
 returns-then-next c =
     rw (← c.byte-b.ensures, ← c.expect_that-next.ensures, c.if-next.true)
 
-pub returns : goal.returns
+pub returns-else-next : goal.returns-else-next
 unfolding count_up_to
-returns c =
+returns-else-next c =
     rw (← c.byte-b.ensures, ← c.expect_that-next.ensures, c.if-next.false)

@@ -1,10 +1,7 @@
-use Prim.Native.Nat.{◌≤◌, ◌-◌}
+use Prim.Native.Nat.{◌≤◌}
 use mathlib.Core.Path.{◌≡◌}
 use Rattle.events_tel.specs.Readers.{read_prefix, times}
 use Rattle.codec.proofs.section.pass_prefixes.Given as goal
 
 abbrev pub invariant-loop-i : goal.invariant-loop-i
-invariant-loop-i l = (l.i ≤ l.count) × (l.next ≡ (times l.i read_prefix l.s l.initial.next).next)
-
-abbrev pub decreases-loop-i : goal.decreases-loop-i
-decreases-loop-i l = l.count - l.i
+invariant-loop-i l = (l._i ≤ l.count) × (l.next ≡ (times l._i read_prefix l.s l.initial.next).next)

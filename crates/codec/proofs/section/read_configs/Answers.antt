@@ -1,4 +1,4 @@
-use Prim.Native.Nat.{ℕ, ◌-◌}
+use Prim.Native.Nat.{ℕ}
 use mathlib.Core.Path.{ap, ◌∙◌}
 use native.Mathlib.Omega.{arith}
 use borrow.Author.Rules.{rules}
@@ -16,7 +16,7 @@ pub loop-i-preserved : goal.loop-i-preserved
 loop-i-preserved c =
     let w = count-within 8 _ _ _ c.count_up_to-n.ensures in (
       search rules,
-      times-pushed read_config _ _ 8 pushed configs-room _ _ _ _ _ (omega (arith, w)) c.loop-i.invariant.1 c.read_config-b.ensures c.push.ensures.1,
+      times-pushed read_config _ _ 8 pushed configs-room _ _ _ _ _ (omega (arith, w)) c.loop-i.invariant.1 c.read_config-b.ensures c.push.ensures.list,
     )
 
 pub returns : goal.returns

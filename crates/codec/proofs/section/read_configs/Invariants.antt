@@ -1,4 +1,4 @@
-use Prim.Native.Nat.{ℕ, ◌≤◌, ◌-◌}
+use Prim.Native.Nat.{ℕ, ◌≤◌}
 use mathlib.Core.Path.{◌≡◌}
 use mathlib.Core.List.{List}
 use Rattle.events_tel.specs.Configs.{view_configs}
@@ -9,7 +9,4 @@ use Rattle.codec.proofs.section.read_configs.Given as goal
 
 abbrev pub invariant-loop-i : goal.invariant-loop-i
 invariant-loop-i l =
-    (l.i ≤ l.count) × (◌≡◌ {A = Read (List ℕ)} (record { value = view_configs l.value; next = l.next }) (times l.i read_config l.s l.initial.next))
-
-abbrev pub decreases-loop-i : goal.decreases-loop-i
-decreases-loop-i l = l.count - l.i
+    (l._i ≤ l.count) × (◌≡◌ {A = Read (List ℕ)} (record { value = view_configs l.value; next = l.next }) (times l._i read_config l.s l.initial.next))

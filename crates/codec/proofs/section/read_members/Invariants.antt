@@ -1,4 +1,4 @@
-use Prim.Native.Nat.{◌≤◌, ◌-◌}
+use Prim.Native.Nat.{◌≤◌}
 use mathlib.Core.Path.{◌≡◌}
 use mathlib.Core.List.{List}
 use lib.ListN.{length, take}
@@ -10,6 +10,3 @@ use Rattle.codec.proofs.section.read_members.Given as goal
 abbrev pub invariant-loop-i : goal.invariant-loop-i
 invariant-loop-i l =
     (l.i ≤ l.count) × (length l.items ≡ 16) × (◌≡◌ {A = Read (List BasicPrefix)} (record { value = take l.i l.items; next = l.next }) (times l.i read_prefix l.s l.initial.next))
-
-abbrev pub decreases-loop-i : goal.decreases-loop-i
-decreases-loop-i l = l.count - l.i
