@@ -7,7 +7,8 @@ use codec::section::count_up_to;
 use codec::{Cursor, Read};
 use events_seal::{Identifier, Seal};
 
-// A seal that is no event seal: no rule reads its content, and it has no bytes but its kind.
+// A seal that is no event seal: no rule reads its content, and it has no bytes but its kind. A `From<u8>` would make a seal of 4 too, and a variant with fields has no discriminant to compare with.
+#[tactic(auto, unfolding(codec::specs::Events::seal_of))]
 fn seal_of(kind: u8) -> Seal
     ensures { result ≡ seal_of kind }
 {
@@ -29,25 +30,19 @@ fn read_event_seal(c: Cursor, s: &[u8]) -> Read<Seal>
     let i = c.identifier(s);
     let n = i.next.sn(s);
     let d = n.next.said(s);
-    let identifier = Identifier::from_matter(i.value);
-    let number = n.value;
-    let said = d.value;
-    let next = d.next;
-    Read {
-        value: Seal::Event {
-            i: identifier,
-            s: number,
-            d: said,
-        },
-        next,
-    }
+    let value = Seal::Event {
+        i: Identifier::from_matter(i.value),
+        s: n.value,
+        d: d.value,
+    };
+    Read { value, next: d.next }
 }
 
 // A seal's kind is 1 to 8.
 fn is_seal_kind(kind: u8) -> bool
     ensures { result ≡ (leb 1 kind && leb kind 8) }
 {
-    (1 <= kind) & (kind <= 8)
+    (1..=8).contains(&kind)
 }
 
 fn read_other_seal(c: Cursor, s: &[u8]) -> Read<Seal>
@@ -89,10 +84,8 @@ pub fn pass_seals(c: Cursor, s: &[u8]) -> Cursor
     let seals = count_up_to(c, s, 8);
     let count = seals.value;
     let mut next = seals.next;
-    let mut i: usize = 0;
-    while i < count {
+    for _i in 0..count {
         next = pass_seal(next, s);
-        i += 1;
     }
     next
 }

@@ -55,7 +55,7 @@ pub enum Seal {
 }
 
 impl Seal {
-    // The byte that stands for its kind.
+    // The byte that stands for its kind. A variant with fields has no discriminant, so each is written out.
     pub fn kind(self) -> u8
         ensures { result ≡ kind_of self }
     {

@@ -18,12 +18,9 @@ impl Kind {
         ensures { result ≡ sn_of_kind self own }
     {
         match self {
-            Kind::Vcp => Sn { hi: 0, lo: 0 },
             Kind::Vrt => own,
-            Kind::Iss => Sn { hi: 0, lo: 0 },
-            Kind::Rev => Sn { hi: 0, lo: 1 },
-            Kind::Bis => Sn { hi: 0, lo: 0 },
-            Kind::Brv => Sn { hi: 0, lo: 1 },
+            Kind::Rev | Kind::Brv => Sn { hi: 0, lo: 1 },
+            Kind::Vcp | Kind::Iss | Kind::Bis => Sn { hi: 0, lo: 0 },
         }
     }
 }

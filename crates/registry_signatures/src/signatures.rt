@@ -26,11 +26,9 @@ pub fn pass_signatures(c: Cursor, s: &[u8]) -> Read<Counted>
     let count = n.value;
     let from = n.next.at;
     let mut next = n.next;
-    let mut i: usize = 0;
-    while i < count {
+    for _i in 0..count {
         let signature = read_signature(next, s);
         next = signature.next;
-        i += 1;
     }
     Read {
         value: Counted { from, count },

@@ -1,5 +1,6 @@
 -- Laws of the state of a registry.
 --     all_pass, all-fail     how a loop finds whether every element passes a test
+--     list_all_is            the same, as the library finds it
 --     all_weaker             every element passes a weaker test
 --     length-registry        a registry state has 121, its config bytes, and 33 for each backer
 --     registry-head          the parts that a state is written in
@@ -9,6 +10,7 @@ use mathlib.Core.Bool.{Bool, true, false, and-false}
 use mathlib.Core.List.{List, [], ◌∷◌, append_assoc}
 use native.Mathlib.Omega.{arith}
 use lib.ListN.{length, get_or}
+use Rattle.std.specs.List.{list_all}
 use Rattle.laws.proofs.Tests.{and_left, and_right}
 use Rattle.codec.specs.Layout.{all}
 use Rattle.registry_bytes.specs.HeadBytes.{head_bytes}
@@ -27,6 +29,12 @@ module _ {A : Type 0} (test : A → Bool) (none : A) where
   all-fail [] i b e = absurd (omega arith)
   all-fail (x ∷ l) zero b e = rw e
   all-fail (x ∷ l) (suc i) b e = rw (all-fail l i (omega arith) e) (and-false (test x))
+
+-- the library's test of every element
+pub list_all_is : {A : Type 0} (test : A → Bool) (l : List A) → list_all test l ≡ all test l
+unfolding all
+list_all_is test [] = refl
+list_all_is test (x ∷ l) = rw (list_all_is test l)
 
 -- what passes a test passes a weaker one
 pub all_weaker : {X : Type 0} (p q : X → Bool) (l : List X) → ((x : X) → p x ≡ true → q x ≡ true) → all p l ≡ true → all q l ≡ true

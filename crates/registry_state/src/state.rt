@@ -11,7 +11,7 @@ ghost use Rattle.registry_state.specs.States.{view_registry, registry_bytes, rea
 use crate::RegistryState;
 use cesr::{Matter, Said};
 use cesr_sn::Sn;
-use codec::section::{pass_prefixes, read_configs, read_prefixes};
+use codec::section::{is_config, pass_prefixes, read_configs, read_prefixes};
 use codec::{Configs, Cursor, Read};
 use events::Members;
 use events_toad::Toad;
@@ -116,39 +116,22 @@ impl RegistryState {
     }
 }
 
-// A config byte is 1 to 6.
-fn is_config(b: u8) -> bool
-    ensures { result ≡ is_config b }
-{
-    (1 <= b) & (b <= 6)
-}
-
 // Whether every config byte is one.
 pub fn all_configs(configs: Configs) -> bool
     ensures { result ≡ all is_config (view_configs configs) }
 {
-    let n = configs.size();
-    let mut i: usize = 0;
-    while i < n {
-        if !is_config(configs.item(i)) {
-            return false;
-        }
-        i += 1;
-    }
-    true
+    configs.as_slice().iter().all(|b| is_config(*b))
 }
 
 fn all_backers(backers: Members) -> bool
     ensures { result ≡ all is_backer (view backers) }
 {
     let n = backers.size();
-    let mut i: usize = 0;
-    while i < n {
+    for i in 0..n {
         let backer = backers.items[i];
         if !backer.0.is_basic() {
             return false;
         }
-        i += 1;
     }
     true
 }

@@ -23,8 +23,9 @@ pub fn valid_receipts(s: &[u8], signatures: Counted, backers: usize) -> usize
     let mut i: usize = 0;
     while i < count {
         let x = read_signature(c, s);
-        let at = x.index as usize;
-        let good = (at < n) & (x.verdict == 1);
+        let signature = x.value;
+        let at = signature.index as usize;
+        let good = (at < n) & (signature.verdict == 1);
         c = x.next;
         i += 1;
         if good {

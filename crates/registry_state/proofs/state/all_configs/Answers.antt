@@ -1,25 +1,12 @@
-use Prim.Native.Nat.{◌-◌}
-use mathlib.Core.Path.{sym}
-use native.Mathlib.Omega.{arith}
-use borrow.Author.Count.{below_more}
-use borrow.Author.Tests.{not-true, not-false}
+use Rattle.std.proofs.Common.{rules, tests, ◌≡◌, ◌∙◌}
+use Rattle.std.proofs.lemmas.Iterator.{YieldsList-from_slice}
+use Rattle.std.proofs.lemmas.Iterator.Search.{all_from_yields_List}
 use Rattle.codec.specs.Configs.{view_configs}
 use Rattle.codec.specs.Events.{is_config}
-use Rattle.registry_state.proofs.StateLoops.{all_pass, all-fail}
+use Rattle.registry_state.proofs.StateLoops.{list_all_is}
 use Rattle.registry_state.proofs.state.all_configs.Goals as goal
-
-pub loop-i-init : goal.loop-i-init
-loop-i-init c = λ k h. absurd (omega arith)
-
-pub returns-then-not-is_config : goal.returns-then-not-is_config
-returns-then-not-is_config c =
-    let l = view_configs c.args.configs in
-    sym (all-fail is_config 0 l c.loop-i.i (omega (arith, c.size-n.ensures)) (rw (← c.item.ensures, ← c.is_config.ensures) (not-true _ c.if-not-is_config.true-raw)))
-
-pub loop-i-preserved : goal.loop-i-preserved
-loop-i-preserved c =
-    below_more _ _ c.loop-i.invariant (rw (← c.item.ensures, ← c.is_config.ensures) (not-false _ c.if-not-is_config.false-raw))
 
 pub returns : goal.returns
 returns c =
-    sym (all_pass is_config 0 (view_configs c.args.configs) (λ k h. c.loop-i.invariant k (omega (arith, c.size-n.ensures))))
+    all_from_yields_List is_config _ _ _ c.all.ensures.ran (YieldsList-from_slice (view_configs c.args.configs) (cc)) (λ x b q k. search (rules, tests))
+    ∙ list_all_is is_config (view_configs c.args.configs)

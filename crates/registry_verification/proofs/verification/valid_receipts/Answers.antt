@@ -24,16 +24,16 @@ loop-i-init c = (search rules, omega (arith, c.at_most_16-n.ensures), refl, no-m
 
 pub bounds-seen-at : goal.bounds-seen-at
 bounds-seen-at c =
-    let below : (c.read_signature-x.result.index < c.at_most_16-n.result) =
-    let x = c.read_signature-x.result in
+    let below : (c.read_signature-x.result.value.index < c.at_most_16-n.result) =
+    let x = c.read_signature-x.result.value in
     let n = c.at_most_16-n.result in
     ltb-true x.index n (and_left (ltb x.index n) (eqb x.verdict 1) c.if-good.true) in
     omega (arith, below)
 
 pub bounds-seen-at-then-seen-at-eq0 : goal.bounds-seen-at-then-seen-at-eq0
 bounds-seen-at-then-seen-at-eq0 c =
-    let below : (c.read_signature-x.result.index < c.at_most_16-n.result) =
-    let x = c.read_signature-x.result in
+    let below : (c.read_signature-x.result.value.index < c.at_most_16-n.result) =
+    let x = c.read_signature-x.result.value in
     let n = c.at_most_16-n.result in
     ltb-true x.index n (and_left (ltb x.index n) (eqb x.verdict 1) c.if-good.true) in
     omega (arith, below)
@@ -47,7 +47,7 @@ pub loop-i-preserved-then-seen-at-eq0 : goal.loop-i-preserved-then-seen-at-eq0
 loop-i-preserved-then-seen-at-eq0 c =
     let l = c.loop-i in
     let a = c.args in
-    let x : Signature = record { index = c.read_signature-x.result.index; verdict = c.read_signature-x.result.verdict } in
+    let x : Signature = c.read_signature-x.result.value in
     let m : Marks = record { seen = l.seen; valid = l.valid } in
     let w = walk_turn c.at_most_16-n.result a.s.now _ l.i l.c m _ _ l.invariant.2 c.read_signature-x.ensures l.invariant.3 (omega (arith, l.invariant.1, l.invariant.4)) (marked-set c.at_most_16-n.result m x c.if-good.true c.if-seen-at-eq0.true) in
     (search rules, l.invariant.1, w.0, w.1, w.2 ∙ l.invariant.4)
@@ -56,7 +56,7 @@ pub loop-i-preserved-else-seen-at-eq0 : goal.loop-i-preserved-else-seen-at-eq0
 loop-i-preserved-else-seen-at-eq0 c =
     let l = c.loop-i in
     let a = c.args in
-    let x : Signature = record { index = c.read_signature-x.result.index; verdict = c.read_signature-x.result.verdict } in
+    let x : Signature = c.read_signature-x.result.value in
     let m : Marks = record { seen = l.seen; valid = l.valid } in
     let w = walk_turn c.at_most_16-n.result a.s.now _ l.i l.c m _ _ l.invariant.2 c.read_signature-x.ensures l.invariant.3 (omega (arith, l.invariant.1, l.invariant.4)) (marked-twice c.at_most_16-n.result m x c.if-good.true c.if-seen-at-eq0.false) in
     (search rules, l.invariant.1, w.0, w.1, w.2 ∙ l.invariant.4)
@@ -65,7 +65,7 @@ pub loop-i-preserved : goal.loop-i-preserved
 loop-i-preserved c =
     let l = c.loop-i in
     let a = c.args in
-    let x : Signature = record { index = c.read_signature-x.result.index; verdict = c.read_signature-x.result.verdict } in
+    let x : Signature = c.read_signature-x.result.value in
     let m : Marks = record { seen = l.seen; valid = l.valid } in
     let w = walk_turn c.at_most_16-n.result a.s.now _ l.i l.c m _ _ l.invariant.2 c.read_signature-x.ensures l.invariant.3 (omega (arith, l.invariant.1, l.invariant.4)) (marked-bad c.at_most_16-n.result m x c.if-good.false) in
     (search rules, l.invariant.1, w.0, w.1, w.2 ∙ l.invariant.4)
