@@ -95,7 +95,7 @@ pub fn pass_prefixes(c: Cursor, s: &[u8]) -> Read<Listed>
     }
 }
 
-// How many a list of at most 16 has, whatever its count says.
+// How many a list of at most 16 has, whatever its count says: the limit under a name, since `n.min(16)` at each of its callers is no shorter.
 pub fn at_most_16(n: usize) -> usize
     ensures { result ≡ min n 16 }
 {

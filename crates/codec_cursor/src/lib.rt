@@ -44,6 +44,7 @@ impl Cursor {
     }
 
     // Stopped where the test fails.
+    #[tactic(auto, unfolding(crate::specs::Readers::need))]
     pub fn expect_that(self, test: bool) -> Cursor
         ensures { result ≡ need self test }
     {
@@ -53,6 +54,7 @@ impl Cursor {
         Cursor { ok: false, at: 0 }
     }
 
+    #[tactic(auto, unfolding(crate::specs::Readers::read_byte))]
     pub fn byte(self, s: &[u8]) -> Read<u8>
         ensures { result ≡ read_byte s.now self }
     {
@@ -62,6 +64,7 @@ impl Cursor {
     }
 
     // A count byte that has to be n.
+    #[tactic(auto, unfolding(crate::specs::Readers::counted))]
     pub fn count(self, s: &[u8], n: u8) -> Cursor
         ensures { result ≡ counted n s.now self }
     {
@@ -69,6 +72,7 @@ impl Cursor {
         b.next.expect_that(b.value == n)
     }
 
+    #[tactic(auto, unfolding(crate::specs::Readers::read_quad))]
     pub fn quad(self, s: &[u8]) -> Read<u32>
         ensures { result ≡ read_quad s.now self }
     {
@@ -77,6 +81,7 @@ impl Cursor {
         Read { value, next }
     }
 
+    #[tactic(auto, unfolding(crate::specs::Readers::read_number))]
     pub fn sn(self, s: &[u8]) -> Read<Sn>
         ensures { result ≡ read_number s.now self }
     {
@@ -85,6 +90,7 @@ impl Cursor {
         Read { value, next }
     }
 
+    #[tactic(auto, unfolding(crate::specs::Readers::read_said, crate::specs::Readers::read_if))]
     pub fn said(self, s: &[u8]) -> Read<Said>
         ensures { result ≡ read_said s.now self }
     {
@@ -96,6 +102,7 @@ impl Cursor {
         }
     }
 
+    #[tactic(auto, unfolding(crate::specs::Readers::read_prefix, crate::specs::Readers::read_if))]
     pub fn prefix(self, s: &[u8]) -> Read<BasicPrefix>
         ensures { result ≡ read_prefix s.now self }
     {
@@ -107,6 +114,7 @@ impl Cursor {
         }
     }
 
+    #[tactic(auto, unfolding(crate::specs::Readers::read_identifier, crate::specs::Readers::read_if, crate::specs::Readers::is_identifier))]
     pub fn identifier(self, s: &[u8]) -> Read<Matter>
         ensures { result ≡ read_identifier s.now self }
     {

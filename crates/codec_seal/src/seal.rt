@@ -24,6 +24,7 @@ fn seal_of(kind: u8) -> Seal
 }
 
 // An event seal, behind its kind.
+#[tactic(auto, unfolding(codec::specs::Events::read_event_seal))]
 fn read_event_seal(c: Cursor, s: &[u8]) -> Read<Seal>
     ensures { result ≡ read_event_seal s.now c }
 {
@@ -35,7 +36,10 @@ fn read_event_seal(c: Cursor, s: &[u8]) -> Read<Seal>
         s: n.value,
         d: d.value,
     };
-    Read { value, next: d.next }
+    Read {
+        value,
+        next: d.next,
+    }
 }
 
 // A seal's kind is 1 to 8.
@@ -55,6 +59,7 @@ fn read_other_seal(c: Cursor, s: &[u8]) -> Read<Seal>
     Read { value, next }
 }
 
+#[tactic(auto, unfolding(codec::specs::Events::read_seal))]
 pub fn read_seal(c: Cursor, s: &[u8]) -> Read<Seal>
     ensures { result ≡ read_seal s.now c }
 {

@@ -96,6 +96,7 @@ pub fn read_event(c: Cursor, s: &[u8]) -> Read<TelEvent>
         2 => read_vrt(k.next, s),
         3 => read_iss(k.next, s),
         4 => read_rev(k.next, s),
-        _ => read_backed(kind == 5, k.next.expect_that((kind == 5) | (kind == 6)), s),
+        5 => read_backed(true, k.next, s),
+        _ => read_backed(false, k.next.expect_that(kind == 6), s),
     }
 }

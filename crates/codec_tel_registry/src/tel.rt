@@ -15,10 +15,10 @@ use events_toad::Toad;
 pub fn blank(kind: Kind, said: usize, seal: Seal) -> TelEvent
     ensures { (result.kind ≡ kind) × (result.said ≡ said) × (result.seal ≡ seal) }
 {
-    let toad = Toad::from_wire(0);
-    let configs = Configs::empty();
-    let start = Cursor::start();
-    let members = Listed { count: 0, start };
+    let members = Listed {
+        count: 0,
+        start: Cursor::start(),
+    };
     TelEvent {
         kind,
         said,
@@ -27,14 +27,15 @@ pub fn blank(kind: Kind, said: usize, seal: Seal) -> TelEvent
         credential: 0,
         prior: 0,
         sn: Sn { hi: 0, lo: 0 },
-        toad,
-        configs,
+        toad: Toad::from_wire(0),
+        configs: Configs::empty(),
         backers: members,
         additions: members,
         seal,
     }
 }
 
+#[tactic(auto, unfolding(codec::specs::Events::read_vcp, codec_cursor::specs::Readers::read_said, codec_cursor::specs::Readers::read_identifier, codec_cursor::specs::Readers::read_if))]
 pub fn read_vcp(c: Cursor, s: &[u8]) -> Read<TelEvent>
     ensures { viewed (view_event s.now) result ≡ read_vcp s.now c }
 {
@@ -45,16 +46,14 @@ pub fn read_vcp(c: Cursor, s: &[u8]) -> Read<TelEvent>
     let backers = pass_prefixes(configs.next, s);
     let next = backers.next.count(s, 0).count(s, 0);
     let mut value = blank(Kind::Vcp, vcp.at, Seal::Digest);
-    let toad = toad.value;
-    let configs = configs.value;
-    let backers = backers.value;
     value.issuer = issuer.at;
-    value.toad = toad;
-    value.configs = configs;
-    value.backers = backers;
+    value.toad = toad.value;
+    value.configs = configs.value;
+    value.backers = backers.value;
     Read { value, next }
 }
 
+#[tactic(auto, unfolding(codec::specs::Events::read_vrt, codec_cursor::specs::Readers::read_said, codec_cursor::specs::Readers::read_if))]
 pub fn read_vrt(c: Cursor, s: &[u8]) -> Read<TelEvent>
     ensures { viewed (view_event s.now) result ≡ read_vrt s.now c }
 {
@@ -67,15 +66,11 @@ pub fn read_vrt(c: Cursor, s: &[u8]) -> Read<TelEvent>
     let additions = pass_prefixes(cuts.next, s);
     let next = additions.next.count(s, 0);
     let mut value = blank(Kind::Vrt, vrt.at, Seal::Digest);
-    let sn = sn.value;
-    let toad = toad.value;
-    let cuts = cuts.value;
-    let additions = additions.value;
     value.registry = registry.at;
     value.prior = prior.at;
-    value.sn = sn;
-    value.toad = toad;
-    value.backers = cuts;
-    value.additions = additions;
+    value.sn = sn.value;
+    value.toad = toad.value;
+    value.backers = cuts.value;
+    value.additions = additions.value;
     Read { value, next }
 }

@@ -29,6 +29,7 @@ impl ConfigTrait {
 }
 
 impl Configs {
+    #[tactic(auto, unfolding(crate::specs::Configs::view_configs))]
     pub fn empty() -> Configs
         ensures { view_configs result ≡ [] }
     {
@@ -86,6 +87,7 @@ impl Configs {
     }
 
     // Equal as lists: order and repeats count, and what stands past the count does not.
+    #[tactic(auto, using(crate::proofs::ConfigLaws::pointwise_same))]
     pub fn same(self, other: Configs) -> bool
         ensures { result ≡ same_list (view_configs self) (view_configs other) }
     {
@@ -93,6 +95,7 @@ impl Configs {
     }
 
     // Whether the trait NoBackers is in the list.
+    #[tactic(auto, unfolding(crate::specs::Configs::no_backers))]
     pub fn no_backers(self) -> bool
         ensures { result ≡ no_backers (view_configs self) }
     {

@@ -24,6 +24,7 @@ impl CredentialState {
     }
 
     // Whether its letters are those of digests.
+    #[tactic(auto, unfolding(crate::specs::CredentialStates::well_credential))]
     pub fn well_formed(self) -> bool
         ensures { result ≡ well_credential self }
     {
@@ -44,6 +45,7 @@ impl CredentialState {
         )
     }
 
+    #[tactic(auto, unfolding(crate::specs::CredentialStates::read_credential))]
     pub fn read(c: Cursor, s: &[u8]) -> Read<CredentialState>
         ensures { result ≡ read_credential s.now c }
     {
@@ -51,38 +53,34 @@ impl CredentialState {
         let credential = registry.next.said(s);
         let sn = credential.next.sn(s);
         let head = sn.next.said(s);
-        let next = head.next;
-        let registry = registry.value;
-        let credential = credential.value;
-        let sn = sn.value;
-        let head = head.value;
         let value = CredentialState {
-            registry,
-            credential,
-            sn,
-            head,
+            registry: registry.value,
+            credential: credential.value,
+            sn: sn.value,
+            head: head.value,
         };
-        Read { value, next }
+        Read {
+            value,
+            next: head.next,
+        }
     }
 }
 
 impl CredentialAt {
     // The same, passed over: only the letters of its digests are looked at.
+    #[tactic(auto, unfolding(crate::specs::CredentialStates::read_credential, codec_cursor::specs::Readers::read_said, codec_cursor::specs::Readers::read_if))]
     pub fn read(c: Cursor, s: &[u8]) -> CredentialAt
         ensures { view_credential_at s.now result ≡ read_credential s.now c }
     {
         let credential = c.pass_said(s);
-        let number = credential.pass_said(s);
-        let number = number.sn(s);
+        let number = credential.pass_said(s).sn(s);
         let head = number.next;
-        let next = head.pass_said(s);
-        let sn = number.value;
         CredentialAt {
             registry: c.at,
             credential: credential.at,
-            sn,
+            sn: number.value,
             head: head.at,
-            next,
+            next: head.pass_said(s),
         }
     }
 }

@@ -13,7 +13,6 @@ use Rattle.registry_status.specs.declared.status.ReferenceRead.{ReferenceRead}
 use Rattle.registry_status.specs.declared.status.RegistriesRead.{RegistriesRead}
 use Rattle.registry_status.specs.declared.status.CredentialsRead.{CredentialsRead}
 use Rattle.registry_status.specs.declared.status.IssuersRead.{IssuersRead}
-use Rattle.registry_status.specs.declared.status.StatusRead.{StatusRead}
 use Rattle.registry_state.specs.States.{Registry, view_registry, registry_bytes, good_registry, read_registry, optional}
 use Rattle.registry_state_credential.specs.CredentialStates.{credential_bytes, good_credential, read_credential}
 
@@ -114,9 +113,6 @@ abbrev pub view_status : StatusInput → Status
 view_status x =
     record
     { said = x.said; issuer = x.issuer; reference = reference_of x.reference x.named; registries = optional x.registries (view_registry x.registry); credentials = optional x.credentials x.credential; issuers = optional x.issuers x.prefix }
-
-abbrev pub view_status_read : StatusRead → Read Status
-view_status_read r = record { value = view_status r.value; next = r.next }
 
 abbrev pub view_decoded_status : DecodedStatus → StatusAnswer
 view_decoded_status r = cond r.ok (decoded (view_status r.input)) malformed

@@ -1,11 +1,12 @@
 // The input of `status`, in bytes (docs/RULES.md, "Bytes").
 ghost use Rattle.std.specs.Prelude.{◌≡◌};
-ghost use Rattle.registry_status.specs.Statuses.{read_reference, read_registries, read_credentials, read_issuers, read_status, decode_status, view_reference_read, view_registries_read, view_credentials_read, view_issuers_read, view_status_read, view_decoded_status};
+ghost use Rattle.codec_cursor.specs.Readers.{viewed};
+ghost use Rattle.registry_status.specs.Statuses.{read_reference, read_registries, read_credentials, read_issuers, read_status, decode_status, view_reference_read, view_registries_read, view_credentials_read, view_issuers_read, view_status, view_decoded_status};
 
 use crate::{DecodedStatus, StatusInput};
 use cesr::{Matter, Said};
 use codec::section::count_up_to;
-use codec_cursor::Cursor;
+use codec_cursor::{Cursor, Read};
 use registry_state::RegistryState;
 use registry_state_credential::CredentialState;
 
@@ -37,12 +38,6 @@ struct IssuersRead {
     next: Cursor,
 }
 
-#[derive(Clone, Copy)]
-struct StatusRead {
-    value: StatusInput,
-    next: Cursor,
-}
-
 impl StatusInput {
     // Nothing may follow the third section.
     pub fn decode(s: &[u8]) -> DecodedStatus
@@ -55,8 +50,8 @@ impl StatusInput {
     }
 }
 
-fn read_status(c: Cursor, s: &[u8]) -> StatusRead
-    ensures { view_status_read result ≡ read_status s.now c }
+fn read_status(c: Cursor, s: &[u8]) -> Read<StatusInput>
+    ensures { viewed view_status result ≡ read_status s.now c }
 {
     let said = c.said(s);
     let issuer = said.next.identifier(s);
@@ -83,7 +78,7 @@ fn read_status(c: Cursor, s: &[u8]) -> StatusRead
         issuers: given.count,
         prefix,
     };
-    StatusRead { value, next }
+    Read { value, next }
 }
 
 // The byte about a credential's registry, and the digest behind a 1.

@@ -1,20 +1,7 @@
-use Prim.Native.Nat.{ℕ}
-use mathlib.Core.Path.{◌≡◌, ap, ◌∙◌}
-use mathlib.Core.Bool.{Bool, true, false, cond, ◌||◌}
-use mathlib.Core.List.{List}
-use lib.Dec.{eqb}
+use native.Mathlib.Omega.{arith}
 use borrow.Author.Tests.{ne_eqb}
-use Rattle.codec_cursor.specs.declared.Cursor.{Cursor}
-use Rattle.codec_cursor.specs.Readers.{need}
-use Rattle.codec_tel_registry.specs.Events.{read_bis, read_brv, read_kind, read_event}
+use Rattle.codec_tel_registry.specs.Events.{read_kind, read_event}
 use Rattle.codec_tel.proofs.tel.read_event.Goals as goal
-
--- a bis keeps its cursor, and of the other kinds only 6 goes on
-backed : (five six : Bool) (s : List ℕ) (c d : Cursor) → d ≡ need c (five || six) →
-    cond five (read_bis s d) (read_brv s d) ≡ cond five (read_bis s c) (read_brv s (need c six))
-unfolding need
-backed true six s c d e = ap (read_bis s) e
-backed false six s c d e = ap (read_brv s) e
 
 pub returns-in-1 : goal.returns-in-1
 unfolding read_event read_kind
@@ -32,16 +19,21 @@ pub returns-in-4 : goal.returns-in-4
 unfolding read_event read_kind
 returns-in-4 c = rw (← c.byte-k.ensures, c.in-4.is) c.read_rev.ensures
 
+pub returns-in-5 : goal.returns-in-5
+unfolding read_event read_kind
+returns-in-5 c = rw (← c.byte-k.ensures, c.in-5.is) c.read_backed.ensures
+
 pub returns-in_default : goal.returns-in_default
 unfolding read_event read_kind
 returns-in_default c =
     let n = c.byte-k.result.value in
-    let r = c.in_default.in_default-own.rest in
     rw (
       ← c.byte-k.ensures,
-      ne_eqb n 1 r.0.0.0.1,
-      ne_eqb n 2 r.0.0.1,
-      ne_eqb n 3 r.0.1,
-      ne_eqb n 4 r.1,
+      ne_eqb n 1 (λ e. omega arith),
+      ne_eqb n 2 (λ e. omega arith),
+      ne_eqb n 3 (λ e. omega arith),
+      ne_eqb n 4 (λ e. omega arith),
+      ne_eqb n 5 (λ e. omega arith),
+      ← c.expect_that.ensures,
     )
-    (c.read_backed.ensures ∙ backed (eqb n 5) (eqb n 6) c.args.s.now c.byte-k.result.next _ c.expect_that.ensures)
+    c.read_backed-in_default.ensures
