@@ -1,9 +1,7 @@
 -- The signatures of an attempt: their layout and limits, and how they are read (docs/RULES.md, "Bytes").
 use Rattle.std.specs.Prelude.{ℕ, ◌^◌, List, [], ◌∷◌, ◌++◌, Bool, ◌&&◌, leb, ltb}
 use Rattle.laws.specs.Number.{digits}
-use Rattle.codec.specs.declared.Cursor.{Cursor}
 use Rattle.codec.specs.Readers.{Reader, placed, read_byte_if, read_quad, mapped, both, times, count_up_to, section}
-use Rattle.codec.specs.declared.Read.{Read}
 use Rattle.registry_signatures.specs.declared.Counted.{Counted}
 use Rattle.registry_signatures.specs.declared.Signature.{Signature}
 

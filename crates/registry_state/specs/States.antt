@@ -10,7 +10,6 @@ use Rattle.cesr.specs.declared.BasicPrefix.{BasicPrefix}
 use Rattle.codec.specs.Configs.{view_configs}
 use Rattle.events.specs.Members.{view}
 use Rattle.codec.specs.Readers.{Reader, is_identifier, read_number, read_quad, read_identifier, read_said, mapped, both}
-use Rattle.codec.specs.declared.Read.{Read}
 use Rattle.codec.specs.Events.{is_config, read_configs, read_prefixes}
 use Rattle.codec.specs.Layout.{section_bytes, all, said_bytes, prefix_bytes, byte_bytes, is_matter, good_said, good_identifier, good_sn, good_toad, good_configs, good_prefixes}
 use Rattle.registry_state.specs.declared.RegistryState.{RegistryState}

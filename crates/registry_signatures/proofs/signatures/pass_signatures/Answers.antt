@@ -1,5 +1,5 @@
 use Rattle.codec.specs.declared.Cursor.{Cursor}
-use Prim.Native.Nat.{ℕ, ◌-◌}
+use Prim.Native.Nat.{ℕ}
 use mathlib.Core.Path.{refl, ap, ◌∙◌}
 use native.Mathlib.Omega.{arith}
 use Rattle.codec.specs.Readers.{times, section}
