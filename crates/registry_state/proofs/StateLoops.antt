@@ -3,7 +3,7 @@
 --     all_weaker             every element passes a weaker test
 --     length-registry        a registry state has 121, its config bytes, and 33 for each backer
 --     registry-head          the parts that a state is written in
-use Prim.Native.Nat.{ℕ, zero, suc, ◌+◌, ◌-◌, ◌*◌, ◌<◌}
+use Prim.Native.Nat.{ℕ, zero, suc, ◌+◌, ◌*◌, ◌<◌}
 use mathlib.Core.Path.{◌≡◌, refl}
 use mathlib.Core.Bool.{Bool, true, false, and-false}
 use mathlib.Core.List.{List, [], ◌∷◌, append_assoc}

@@ -1,8 +1,6 @@
-use Prim.Native.Nat.{◌-◌}
 use mathlib.Core.Path.{sym}
 use native.Mathlib.Omega.{arith}
 use borrow.Author.Count.{below_more}
-use borrow.Author.Tests.{not-true, not-false}
 use Rattle.codec.specs.Configs.{view_configs}
 use Rattle.codec.specs.Events.{is_config}
 use Rattle.registry_state.proofs.StateLoops.{all_pass, all-fail}
@@ -13,13 +11,11 @@ loop-i-init c = λ k h. absurd (omega arith)
 
 pub returns-then-not-is_config : goal.returns-then-not-is_config
 returns-then-not-is_config c =
-    let l = view_configs c.args.configs in
-    sym (all-fail is_config 0 l c.loop-i.i (omega (arith, c.size-n.ensures)) (rw (← c.item.ensures, ← c.is_config.ensures) (not-true _ c.if-not-is_config.true-raw)))
+    sym (all-fail is_config 0 (view_configs c.args.configs) c.loop-i.i (omega (arith, c.size-i-end.ensures)) (rw (← c.item.ensures) (sym c.if-not-is_config.ensures)))
 
 pub loop-i-preserved : goal.loop-i-preserved
-loop-i-preserved c =
-    below_more _ _ c.loop-i.invariant (rw (← c.item.ensures, ← c.is_config.ensures) (not-false _ c.if-not-is_config.false-raw))
+loop-i-preserved c = below_more _ _ c.loop-i.invariant (rw (← c.item.ensures) (sym c.if-not-is_config.ensures))
 
 pub returns : goal.returns
 returns c =
-    sym (all_pass is_config 0 (view_configs c.args.configs) (λ k h. c.loop-i.invariant k (omega (arith, c.size-n.ensures))))
+    sym (all_pass is_config 0 (view_configs c.args.configs) (λ k h. c.loop-i.invariant k (omega (arith, c.size-i-end.ensures))))
