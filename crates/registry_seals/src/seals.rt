@@ -33,7 +33,7 @@ pub fn chosen_seals<'a>(evidence: &'a [u8], message: &'a [u8]) -> &'a [u8]
     seal_section(chosen(evidence, message))
 }
 
-// Whether a section holds exactly one seal, the event seal with this i, s and d. The seal is compared where it stands.
+// Whether a section holds exactly one seal, the event seal with this i, s and d. The seal is compared where it stands. The tests are joined by `&`, with no branch: most seals pass them all.
 pub fn anchor_seals(section: &[u8], i: Matter, s: Sn, d: Said) -> bool
     ensures { result ≡ anchor_seals section.now i s d }
 {

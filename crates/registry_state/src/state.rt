@@ -37,7 +37,7 @@ impl RegistryState {
         }
     }
 
-    // Whether its counts, letters and config bytes are within the limits.
+    // Whether its counts, letters and config bytes are within the limits. The tests are joined by `&`, with no branch: most states pass them all.
     pub fn well_formed(self) -> bool
         ensures { result ≡ well_registry self }
     {
