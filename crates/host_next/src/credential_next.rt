@@ -6,6 +6,7 @@ use cesr_sn::Sn;
 use host_report::report::report_sized;
 use registry_answer::answer::accept_if;
 use registry_error::RegistryRejection;
+use registry_head::HeadPlaces;
 use registry_head::head::copy_credential;
 
 pub fn leave_credential(
@@ -20,7 +21,13 @@ pub fn leave_credential(
 ) -> u8
     ensures { called result report.new next.new ≡ call_of (credential_copied held.now registry credential sn s.now head) next.old }
 {
-    let ok = copy_credential(held, registry, credential, sn, s, head, next);
+    let places = HeadPlaces {
+        first: registry,
+        second: credential,
+        sn,
+        last: head,
+    };
+    let ok = copy_credential(held, s, &places, next);
     let answer = accept_if(ok, RegistryRejection::ShortBuffer);
     report_sized(answer, 115, report)
 }

@@ -11,7 +11,10 @@ use registry_room::NextState;
 pub fn leave_next(held: &[u8], s: &[u8], p: NextState, next: &mut [u8], report: &mut [u8; 36]) -> u8
     ensures { called result report.new next.new ≡ call_of (next_folded held.now s.now p) next.old }
 {
-    let w = write_next(held, s, p, next);
-    let answer = accept_if(w.ok, RegistryRejection::ShortBuffer);
-    report_sized(answer, w.size, report)
+    let written = write_next(held, s, p, next);
+    let answer = accept_if(written.is_ok(), RegistryRejection::ShortBuffer);
+    match written {
+        Ok(size) => report_sized(answer, size, report),
+        Err(short) => report_sized(answer, short.size, report),
+    }
 }

@@ -1,27 +1,36 @@
 -- Laws of the bytes of states.
 --     length_rest, length_front, length-state     how many bytes there are
---     config-step, backer-step   how a loop writes a section, an element a turn
+--     few-configs            there are at most 8 config bytes
+--     backer-step            how a loop writes a section, an element a turn
 --     part-stored            a run stored at the start of a lent part is that run stored in the whole
---     rest-sets, front-sets, state-sets   the parts of a state, one behind the other
+--     terms-stored           the threshold and the config bytes, one behind the other
+--     front-stored, front-refused, state-stored, state-refused
+--                            what a writer of a state leaves and answers
 --     state-front            a state is what stands before its backers, then they
-use Prim.Native.Nat.{ℕ, suc, ◌+◌, ◌-◌, ◌*◌, ◌<◌, ◌≤◌}
+use Prim.Native.Nat.{ℕ, zero, suc, ◌+◌, ◌-◌, ◌*◌, ◌<◌, ◌≤◌}
 use mathlib.Core.Path.{◌≡◌, refl, ap, sym, ◌∙◌}
+use mathlib.Core.Bool.{true, false}
 use mathlib.Core.List.{List, [], ◌∷◌, ◌++◌, append_assoc, append-nil}
-use native.Mathlib.Nat.{add_assoc, add-suc, suc-add, add-zero, le-add_right, mul-zero, mul-suc}
+use native.Mathlib.Nat.{add-suc, add-zero, le-add_right, mul-zero, mul-suc}
 use native.Mathlib.Omega.{arith}
-use lib.ListN.{length, get_or, take, drop, set, length-append, length-drop, take-append-drop, drop_of_length-le}
-use lib.Seq.{sets, set_comm, length-sets, length-take-le, take_all, take-set-le, drop-set-add}
+use borrow.Author.Tests.{leb-true}
+use lib.Dec.{leb}
+use lib.ListN.{length, length-set, get_or, take, drop, set, length-append, length-drop, take-append-drop, drop_of_length-le}
+use lib.Seq.{sets, sets-eq, drop-drop, length-sets, length-take-le, take_all, take-set-le, drop-set-add}
 use borrow.Rule.Slice.PartMut.{put_mid, mid_of}
 use Rattle.laws.specs.Number.{digits}
-use Rattle.laws.specs.Room.{put}
+use Rattle.laws.specs.Room.{room, put}
 use Rattle.laws.proofs.Number.{length_digits}
-use Rattle.laws.proofs.Room.{put-sets, sets-append}
+use Rattle.laws.proofs.Room.{put-sets, sets-append, stored, refused}
 use Rattle.laws.proofs.Views.{take_step}
 use Rattle.cesr_sn.specs.declared.Sn.{Sn}
 use Rattle.cesr.specs.declared.Matter.{Matter}
 use Rattle.cesr.specs.declared.BasicPrefix.{BasicPrefix}
 use Rattle.cesr.proofs.Matters.{length-matter}
 use Rattle.events.specs.Members.{no_prefix, at}
+use Rattle.codec_laws.specs.declared.Configs.{Configs}
+use Rattle.codec_laws.specs.Configs.{view_configs}
+use Rattle.codec_laws.proofs.ConfigLaws.{view-size}
 use Rattle.codec_laws.specs.Layout.{joined, section_bytes, byte_bytes, prefix_bytes}
 use Rattle.codec_laws.proofs.CodesList.{joined_snoc}
 use Rattle.registry_head.specs.HeadBytes.{head_bytes}
@@ -60,10 +69,10 @@ pub length-state : (a b : Matter) (n : Sn) (d : Matter) (toad : ℕ) (configs : 
 unfolding state_bytes
 length-state a b n d toad configs backers = rw (length-append, length-head, length_rest) (omega arith)
 
--- a config byte more, and a backer more
-pub config-step : (b l : List ℕ) (i : ℕ) → i < length l → set (sets b 1 (joined byte_bytes (take i l))) (1 + i) (get_or l i 0) ≡ sets b 1 (joined byte_bytes (take (i + 1) l))
-config-step b l i h = let e : 1 + i ≡ 1 + 1 * i = omega arith in rw e (section-step byte_bytes 1 (λ x. refl) b l i 0 h)
+pub few-configs : (c : Configs) → length c.codes ≡ 8 → length (view_configs c) ≤ 8
+few-configs c h = omega (arith, view-size c h)
 
+-- a backer more
 pub backer-step : (b : List ℕ) (l : List BasicPrefix) (i : ℕ) → i < length l → 1 + 33 * length l ≤ length b → put (sets b 1 (joined prefix_bytes (take i l))) (1 + 33 * i) (prefix_bytes (at l i)) ≡ sets b 1 (joined prefix_bytes (take (i + 1) l))
 backer-step b l i h k =
     put-sets (sets b 1 (joined prefix_bytes (take i l))) (1 + 33 * i) 33 (prefix_bytes (at l i)) (length-matter (at l i).0) (rw length-sets (omega arith))
@@ -90,42 +99,81 @@ part-sets a l vs h =
 pub part-stored : (a : ℕ) (l m vs : List ℕ) → a ≤ length l → m ≡ sets (mid_of a (length l - a) l) 0 vs → put_mid a (length l - a) l m ≡ sets l a vs
 part-stored a l m vs h e = ap (put_mid a (length l - a) l) e ∙ part-sets a l vs h
 
-pub rest-sets : (l : List ℕ) (at toad : ℕ) (configs : List ℕ) (backers : List BasicPrefix) → at + 4 ≤ length l → sets (sets (put l at (digits 4 toad)) (at + 4) (section_bytes byte_bytes configs)) (at + 4 + 1 + length configs) (section_bytes prefix_bytes backers) ≡ sets l at (rest_bytes toad configs backers)
-unfolding rest_bytes
-rest-sets l at toad configs backers h =
-    let p : put l at (digits 4 toad) ≡ sets l at (digits 4 toad) = put-sets l at 4 (digits 4 toad) (length_digits 4 toad) h in
-    rw (p, sets-append, length_digits, sets-append, length-configs, add_assoc (at + 4) 1 (length configs))
-
 pub length_front : (a b : Matter) (n : Sn) (d : Matter) (toad : ℕ) (configs : List ℕ) → length (front_bytes a b n d toad configs) ≡ 120 + length configs
 unfolding front_bytes
 length_front a b n d toad configs = rw (length-append, length-append, length-head, length_digits, length-configs) (omega arith)
-
-pub front-sets : (l : List ℕ) (a b : Matter) (n : Sn) (d : Matter) (toad : ℕ) (configs : List ℕ) → 119 ≤ length l → sets (put (sets l 0 (head_bytes a b n d)) 115 (digits 4 toad)) 119 (section_bytes byte_bytes configs) ≡ sets l 0 (front_bytes a b n d toad configs)
-unfolding front_bytes
-front-sets l a b n d toad configs h =
-    let p : put (sets l 0 (head_bytes a b n d)) 115 (digits 4 toad) ≡ sets (sets l 0 (head_bytes a b n d)) 115 (digits 4 toad) = put-sets (sets l 0 (head_bytes a b n d)) 115 4 (digits 4 toad) (length_digits 4 toad) (rw length-sets h) in
-    rw (p, sets-append, length-head, sets-append, length_digits)
 
 pub state-front : (a b : Matter) (n : Sn) (d : Matter) (toad : ℕ) (configs : List ℕ) (backers : List BasicPrefix) → state_bytes a b n d toad configs backers ≡ front_bytes a b n d toad configs ++ section_bytes prefix_bytes backers
 unfolding state_bytes rest_bytes front_bytes
 state-front a b n d toad configs backers = sym (simp append_assoc)
 
--- a store before a run of stores may go first
-set_before : (l : List ℕ) (i j v : ℕ) (ws : List ℕ) → i < j → set (sets l j ws) i v ≡ sets (set l i v) j ws
-set_before l i j v [] h = refl
-set_before l i j v (w ∷ ws) h =
-    set_before (set l j w) i (suc j) v ws (omega arith) ∙ ap (λ (m : List ℕ). sets m (suc j) ws) (set_comm l j i w v (λ e. omega (arith, e)))
+-- a run copied into a part of its length is stored
+middle-sets : (a n : ℕ) (l vs : List ℕ) → length vs ≡ n → a + n ≤ length l → put_mid a (a + n - a) l vs ≡ sets l a vs
+middle-sets a n l vs e h =
+    let g : drop (a + n - a) (drop a l) ≡ drop (a + length vs) l = drop-drop (a + n - a) a l ∙ ap (λ (k : ℕ). drop k l) (omega arith) in
+    rw (g, ← append_assoc) (sym (sets-eq vs l a (omega arith)))
 
--- of two runs of stores, one behind the other, the second may go first
-sets-before : (l : List ℕ) (at : ℕ) (vs ws : List ℕ) → sets (sets l (at + length vs) ws) at vs ≡ sets l at (vs ++ ws)
-sets-before l at [] ws = rw add-zero
-sets-before l at (v ∷ vs) ws =
-    ap (λ (m : List ℕ). sets m (suc at) vs) (set_before l at (at + suc (length vs)) v ws (omega arith))
-    ∙ ap (λ (k : ℕ). sets (sets (set l at v) k ws) (suc at) vs) (add-suc at (length vs) ∙ sym (suc-add at (length vs)))
-    ∙ sets-before (set l at v) (suc at) vs ws
+take-same : (k : ℕ) (l : List ℕ) → take (length (take k l)) l ≡ take k l
+take-same zero l = refl
+take-same (suc k) [] = refl
+take-same (suc k) (x ∷ l) = ap (λ (t : List ℕ). x ∷ t) (take-same k l)
 
-pub state-sets : (l : List ℕ) (at : ℕ) (a b : Matter) (n : Sn) (d : Matter) (toad : ℕ) (configs : List ℕ) (backers : List BasicPrefix) → sets (sets l (at + 115) (rest_bytes toad configs backers)) at (head_bytes a b n d) ≡ sets l at (state_bytes a b n d toad configs backers)
-unfolding state_bytes
-state-sets l at a b n d toad configs backers =
-    ap (λ (k : ℕ). sets (sets l (at + k) (rest_bytes toad configs backers)) at (head_bytes a b n d)) (sym (length-head a b n d))
-    ∙ sets-before l at (head_bytes a b n d) (rest_bytes toad configs backers)
+joined-bytes : (l : List ℕ) → joined byte_bytes l ≡ l
+unfolding joined
+joined-bytes [] = refl
+joined-bytes (x ∷ l) = ap (λ (t : List ℕ). x ∷ t) (joined-bytes l)
+
+abbrev pub terms : ℕ → List ℕ → List ℕ
+terms toad configs = digits 4 toad ++ section_bytes byte_bytes configs
+
+length-terms : (toad : ℕ) (configs : List ℕ) → length (terms toad configs) ≡ 5 + length configs
+length-terms toad configs = rw (length-append, length_digits, length-configs) (omega arith)
+
+pub terms-stored : (l o m : List ℕ) (at n toad : ℕ) (c : Configs) → n ≡ length (view_configs c) → at + (5 + n) ≤ length l → o ≡ put l at (digits 4 toad) → m ≡ take n c.codes → put_mid (at + 5) (at + 5 + n - (at + 5)) (set o (at + 4) n) m ≡ sets l at (terms toad (view_configs c))
+unfolding section_bytes view_configs
+terms-stored l o m at n toad c e h f g =
+    let d = digits 4 toad in
+    let v : m ≡ take c.count c.codes = g ∙ ap (λ (k : ℕ). take k c.codes) e ∙ take-same c.count c.codes in
+    let p : o ≡ sets l at d = f ∙ put-sets l at 4 d (length_digits 4 toad) (omega arith) in
+    let q : length (set o (at + 4) n) ≡ length l = rw (length-set, p, length-sets) in
+    let r : at + 5 ≡ suc (at + 4) = omega arith in
+    middle-sets (at + 5) n (set o (at + 4) n) m (ap length v ∙ sym e) (omega arith)
+    ∙ rw (v, p, e, r, joined-bytes, sets-append, length_digits)
+
+module _ (l : List ℕ) (at : ℕ) (a b : Matter) (n : Sn) (d : Matter) (toad : ℕ) (configs : List ℕ) where
+  front-sets : (o m : List ℕ) → at + 115 ≤ length l → o ≡ put l at (head_bytes a b n d) → m ≡ sets o (at + 115) (terms toad configs) → m ≡ sets l at (front_bytes a b n d toad configs)
+  unfolding front_bytes
+  front-sets o m h e f =
+      let p : o ≡ sets l at (head_bytes a b n d) = e ∙ put-sets l at 115 (head_bytes a b n d) (length-head a b n d) h in
+      f
+      ∙ ap (λ (t : List ℕ). sets t (at + 115) (terms toad configs)) p
+      ∙ ap (λ (k : ℕ). sets (sets l at (head_bytes a b n d)) (at + k) (terms toad configs)) (sym (length-head a b n d))
+      ∙ sym (sets-append l at (head_bytes a b n d) (terms toad configs))
+
+  pub front-refused : (k : ℕ) → k ≡ length configs → false ≡ leb (at + (120 + k)) (length l) → (false ≡ room l at (length (front_bytes a b n d toad configs))) × (l ≡ put l at (front_bytes a b n d toad configs))
+  front-refused k e h =
+      let f = front_bytes a b n d toad configs in
+      refused l at (length f) f refl (rw (length_front a b n d toad configs, ← e) (sym h))
+
+  pub front-stored : (k : ℕ) (o m : List ℕ) → k ≡ length configs → true ≡ leb (at + (120 + k)) (length l) → o ≡ put l at (head_bytes a b n d) → m ≡ sets o (at + 115) (terms toad configs) → (true ≡ room l at (length (front_bytes a b n d toad configs))) × (m ≡ put l at (front_bytes a b n d toad configs))
+  front-stored k o m e h p q =
+      let f = front_bytes a b n d toad configs in
+      stored l at (length f) f m refl (rw (length_front a b n d toad configs, ← e) (sym h)) (front-sets o m (omega (arith, leb-true (at + (120 + k)) (length l) (sym h))) p q)
+
+  module _ (backers : List BasicPrefix) where
+    abbrev state : List ℕ
+    state = state_bytes a b n d toad configs backers
+
+    pub state-refused : (k : ℕ) → k ≡ 121 + length configs + 33 * length backers → false ≡ leb (at + k) (length l) → (false ≡ room l at (length state)) × (l ≡ put l at state)
+    state-refused k e h = refused l at (length state) state refl (rw (length-state a b n d toad configs backers, ← e) (sym h))
+
+    pub state-stored : (k i : ℕ) (o m q : List ℕ) → k ≡ 121 + length configs + 33 * length backers → true ≡ leb (at + k) (length l) → i ≡ length configs → o ≡ put l at (head_bytes a b n d) → m ≡ sets o (at + 115) (terms toad configs) → q ≡ sets (mid_of (at + 120 + i) (length m - (at + 120 + i)) m) 0 (section_bytes prefix_bytes backers) → (true ≡ room l at (length state)) × (put_mid (at + 120 + i) (length m - (at + 120 + i)) m q ≡ put l at state)
+    state-stored k i o m q e h j f g r =
+        let w = leb-true (at + k) (length l) (sym h) in
+        let front = front_bytes a b n d toad configs in
+        let p : m ≡ sets l at front = front-sets o m (omega arith) f g in
+        let s : length m ≡ length l = rw (p, length-sets) in
+        let t : at + 120 + i ≡ at + length front = omega (arith, length_front a b n d toad configs) in
+        let whole : sets m (at + 120 + i) (section_bytes prefix_bytes backers) ≡ sets l at state = rw (state-front a b n d toad configs backers, sets-append, p, t) in
+        stored l at (length state) state _ refl (rw (length-state a b n d toad configs backers, ← e) (sym h))
+        (part-stored (at + 120 + i) m q (section_bytes prefix_bytes backers) (omega arith) r ∙ whole)

@@ -2,3 +2,5 @@
 #![tactic(auto)]
 
 pub mod writer;
+
+pub use registry_head::{HeadParts, HeadPlaces};

@@ -5,21 +5,32 @@
 --     backers-sets       one list behind another
 --     set_before         a store before a run of stores may go first
 --     next-sets          the bytes of a next state, in the two parts that they are stored in
+--     members-fit        the bytes of a list find room, where its members do
+--     listed-survivors, all-survivors   those that survive, by the loops that read both lists
+--     next-sizes         the bounds of what the size of a next state is summed of, where it finds room
+--     next-refused, next-stored   what a writer of a next state leaves and answers
 --     member-bytes       the bytes of a prefix that is read are those of the primitive at its place
-use Prim.Native.Nat.{ℕ, suc, ◌+◌, ◌*◌, ◌≤◌, ◌<◌}
+use Prim.Native.Nat.{ℕ, suc, ◌+◌, ◌*◌, ◌≤◌, ◌<◌, ◌-◌, min}
 use mathlib.Core.Path.{◌≡◌, refl, ap, sym, ◌∙◌}
-use mathlib.Core.Bool.{Bool, false}
+use mathlib.Core.Bool.{Bool, true, false}
 use mathlib.Core.List.{List, [], ◌∷◌, ◌++◌}
 use native.Mathlib.Omega.{arith}
 use native.Mathlib.Numerals.{add-one}
+use borrow.Author.Tests.{leb-true, leb-false, le-leb, lt-leb}
+use borrow.Rule.Slice.PartMut.{put_mid, mid_of}
+use lib.Dec.{leb}
 use lib.ListN.{length, set}
 use lib.Seq.{sets, length-sets, set_comm}
-use Rattle.laws.specs.Room.{put}
-use Rattle.laws.proofs.Room.{put-sets, sets-append}
+use Rattle.laws.specs.Room.{room, put}
+use Rattle.laws.proofs.Room.{put-sets, sets-append, stored, refused}
 use Rattle.cesr.specs.declared.BasicPrefix.{BasicPrefix}
 use Rattle.cesr.specs.Primitives.{read_matter, matter_bytes}
 use Rattle.cesr.proofs.Matters.{length-matter}
 use Rattle.events.specs.Members.{has}
+use Rattle.events_tel.specs.declared.Listed.{Listed}
+use Rattle.events_tel.specs.TelEvents.{members_in}
+use Rattle.registry_members.specs.Updated.{survivors}
+use Rattle.registry_rotation.proofs.Listed.{all_listed}
 use Rattle.events_tel.specs.Configs.{view_configs}
 use Rattle.codec_cursor.specs.declared.Cursor.{Cursor}
 use Rattle.codec_cursor.specs.Readers.{read_if, read_prefix, times}
@@ -27,11 +38,11 @@ use Rattle.codec_cursor.specs.declared.Read.{Read}
 use Rattle.codec.specs.Layout.{joined, section_bytes, prefix_bytes}
 use Rattle.codec.proofs.Loops.{length-times}
 use Rattle.codec_laws.proofs.CodesList.{joined-append, joined_snoc}
-use Rattle.registry_bytes.proofs.StateWrites.{length-backers, length_front, state-front}
+use Rattle.registry_bytes.proofs.StateWrites.{few-configs, length-backers, length_front, part-stored, state-front}
 use Rattle.registry_bytes.specs.StateBytes.{front_bytes}
 use Rattle.registry_room.specs.declared.NextState.{NextState}
 use Rattle.registry_room.specs.NextStates.{next_members, next_bytes}
-use Rattle.registry_room.proofs.Counts.{left, survivors-kept}
+use Rattle.registry_room.proofs.Counts.{left, survivors-kept, size-next, few-next}
 
 length-members : (l : List BasicPrefix) → length (joined prefix_bytes l) ≡ 33 * length l
 unfolding section_bytes
@@ -45,6 +56,17 @@ member-more b at l k x e h =
 pub member-bytes : (s : List ℕ) (c : Cursor) (r : Read BasicPrefix) → r ≡ read_prefix s c → matter_bytes (read_matter s c.at) ≡ prefix_bytes r.value
 unfolding read_prefix read_if
 member-bytes s c r e = rw e
+
+pub members-fit : (s : List ℕ) (list : Listed) (at n : ℕ) (b : List ℕ) → n ≡ min list.count 16 → at + 33 * length (members_in s list) ≤ length b → at + 33 * n ≤ length b
+members-fit s list at n b e h =
+    omega (arith, h, ap length (all_listed s list n e), length-times read_prefix s list.start n)
+
+-- those of a list that survive, by the loops that read both lists
+pub listed-survivors : (held : List ℕ) (current : Listed) (s : List ℕ) (cuts : Listed) (n m : ℕ) → n ≡ min current.count 16 → m ≡ min cuts.count 16 → survivors (members_in s cuts) (members_in held current) ≡ survivors (times m read_prefix s cuts.start).value (times n read_prefix held current.start).value
+listed-survivors held current s cuts n m e f = rw (all_listed s cuts m f, all_listed held current n e)
+
+pub all-survivors : (held : List ℕ) (current : Listed) (s : List ℕ) (cuts : Listed) (n m : ℕ) → n ≡ min current.count 16 → m ≡ min cuts.count 16 → length (survivors (members_in s cuts) (members_in held current)) ≡ length (survivors (times m read_prefix s cuts.start).value (times n read_prefix held current.start).value)
+all-survivors held current s cuts n m e f = ap length (listed-survivors held current s cuts n m e f)
 
 -- a survivor that a loop looks at
 pub survivor-next : (cuts : List BasicPrefix) (s : List ℕ) (start : Cursor) (i : ℕ) (c : Cursor) (r : Read BasicPrefix) (t : Bool) → c ≡ (times i read_prefix s start).next → r ≡ read_prefix s c → t ≡ has r.value cuts → (b : List ℕ) (n : ℕ) → n ≡ length (left cuts s start i) → t ≡ false → 1 + 33 * n + 33 ≤ length b → put (sets b 1 (joined prefix_bytes (left cuts s start i))) (1 + 33 * n) (matter_bytes (read_matter s c.at)) ≡ sets b 1 (joined prefix_bytes (left cuts s start (i + 1)))
@@ -77,6 +99,10 @@ module _ (held s : List ℕ) (p : NextState) where
   front-next =
       length_front (read_matter held p.id) (read_matter held p.issuer) p.sn (read_matter s p.latest) p.toad.0 (view_configs p.configs)
 
+  pub next-sizes : (k : ℕ) (l : List ℕ) → k ≡ length (view_configs p.configs) → length p.configs.codes ≡ 8 → true ≡ leb (length (next_bytes held s p)) (length l) → (length (next_bytes held s p) ≡ 121 + k + 33 * length (next_members held s p)) × ((length (next_bytes held s p) ≤ length l) × ((k ≤ 8) × (length (next_members held s p) ≤ 32)))
+  next-sizes k l e full h =
+      (omega (arith, size-next held s p), (leb-true (length (next_bytes held s p)) (length l) (sym h), (omega (arith, few-configs p.configs full), few-next held s p)))
+
   pub next-sets : (b : List ℕ) (k : ℕ) → k ≡ 120 + length (view_configs p.configs) → k ≤ length b → sets (put b 0 front) k (section_bytes prefix_bytes (next_members held s p)) ≡ sets b 0 (next_bytes held s p)
   unfolding next_bytes
   next-sets b k e h =
@@ -86,3 +112,18 @@ module _ (held s : List ℕ) (p : NextState) where
       ∙ ap (λ (j : ℕ). sets (sets b 0 front) j section) g
       ∙ sym (sets-append b 0 front section)
       ∙ ap (sets b 0) (sym (state-front (read_matter held p.id) (read_matter held p.issuer) p.sn (read_matter s p.latest) p.toad.0 (view_configs p.configs) (next_members held s p)))
+
+  pub next-refused : (l : List ℕ) → false ≡ leb (length (next_bytes held s p)) (length l) → (false ≡ room l 0 (length (next_bytes held s p))) × (l ≡ put l 0 (next_bytes held s p))
+  next-refused l h =
+      let bytes = next_bytes held s p in
+      let short = leb-false (length bytes) (length l) (sym h) in
+      refused l 0 (length bytes) bytes refl (lt-leb (0 + length bytes) (length l) (omega (arith, short)))
+
+  -- what stands before the backers, then their section in the rest of the bytes
+  pub next-stored : (l o m : List ℕ) (k : ℕ) → k ≡ length (view_configs p.configs) → 121 + k ≤ length l → length (next_bytes held s p) ≤ length l → o ≡ put l 0 front → length o ≡ length l → m ≡ sets (mid_of (120 + k) (length o - (120 + k)) o) 0 (section_bytes prefix_bytes (next_members held s p)) → (true ≡ room l 0 (length (next_bytes held s p))) × (put_mid (120 + k) (length o - (120 + k)) o m ≡ put l 0 (next_bytes held s p))
+  next-stored l o m k e h fits f g q =
+      let bytes = next_bytes held s p in
+      let section = section_bytes prefix_bytes (next_members held s p) in
+      let j : 120 + k ≡ 120 + length (view_configs p.configs) = ap (λ (n : ℕ). 120 + n) e in
+      let w : put_mid (120 + k) (length o - (120 + k)) o m ≡ sets l 0 bytes = part-stored (120 + k) o m section (omega arith) q ∙ ap (λ (x : List ℕ). sets x (120 + k) section) f ∙ next-sets l (120 + k) j (omega arith) in
+      stored l 0 (length bytes) bytes _ refl (le-leb (0 + length bytes) (length l) (omega (arith, fits))) w

@@ -1,5 +1,5 @@
 // The next state of a registry, written. Nothing that has 33 bytes is read into a value: it is copied from where it stands.
-ghost use Rattle.std.specs.Prelude.{◌≡◌, ◌+◌, ◌*◌, ◌≤◌, length};
+ghost use Rattle.std.specs.Prelude.{◌≡◌, ◌+◌, ◌*◌, ◌≤◌, length, is_ok, MatchResult};
 ghost use Rattle.std.proofs.lemmas.List.Edits.{sets};
 ghost use Rattle.laws.specs.Room.{room, put};
 ghost use Rattle.events_tel.specs.TelEvents.{members_in};
@@ -7,10 +7,11 @@ ghost use Rattle.codec.specs.Layout.{joined, section_bytes, prefix_bytes};
 ghost use Rattle.registry_members.specs.Updated.{survivors};
 ghost use Rattle.registry_room.specs.NextStates.{next_members, next_bytes};
 
-use crate::Written;
+use crate::TooShort;
 use cesr_write::matter::copy_matter;
 use codec::section::at_most_16;
 use events_tel::Listed;
+use registry_bytes::HeadPlaces;
 use registry_bytes::writer::copy_front;
 use registry_room::NextState;
 use registry_room::next::{is_enough, next_size};
@@ -26,14 +27,11 @@ fn copy_survivors(held: &[u8], current: Listed, s: &[u8], cuts: Listed, out: &mu
     let m = at_most_16(cuts.count);
     let mut c = current.start;
     let mut left: usize = 0;
-    let mut i: usize = 0;
-    while i < n {
-        let p = c.prefix(held);
-        let gone = found_in(s, cuts.start, m, p.value);
+    for _i in 0..n {
         let from = c.at;
+        let p = c.prefix(held);
         c = p.next;
-        i += 1;
-        if !gone {
+        if !found_in(s, cuts.start, m, p.value) {
             copy_matter(held, from, out, 1 + 33 * left);
             left += 1;
         }
@@ -48,11 +46,9 @@ fn copy_members(s: &[u8], list: Listed, out: &mut [u8], at: usize)
 {
     let n = at_most_16(list.count);
     let mut c = list.start;
-    let mut i: usize = 0;
-    while i < n {
+    for i in 0..n {
         copy_matter(s, c.at, out, at + 33 * i);
         c = c.pass_prefix(s);
-        i += 1;
     }
 }
 
@@ -69,20 +65,23 @@ fn copy_backers(held: &[u8], s: &[u8], p: NextState, out: &mut [u8]) -> usize
     count
 }
 
-// The bytes of a next state, stored from the start of `out` on: all of them or none.
-pub fn write_next(held: &[u8], s: &[u8], p: NextState, out: &mut [u8]) -> Written
-    ensures size { result.size ≡ length (next_bytes held.now s.now p) }
-    ensures stored { (result.ok ≡ room out.old 0 (length (next_bytes held.now s.now p))) × (out.new ≡ put out.old 0 (next_bytes held.now s.now p)) }
+// The bytes of a next state, stored from the start of `out` on: all of them or none. Answers how many they are, where they find no room too.
+pub fn write_next(held: &[u8], s: &[u8], p: NextState, out: &mut [u8]) -> Result<usize, TooShort>
+    ensures size { MatchResult result (λ size. size ≡ length (next_bytes held.now s.now p)) (λ short. short.size ≡ length (next_bytes held.now s.now p)) }
+    ensures stored { (is_ok result ≡ room out.old 0 (length (next_bytes held.now s.now p))) × (out.new ≡ put out.old 0 (next_bytes held.now s.now p)) }
 {
     if !is_enough(held, s, p, out.len()) {
         let size = next_size(held, s, p);
-        return Written { ok: false, size };
+        return Err(TooShort { size });
     }
-    copy_front(
-        held, p.id, p.issuer, p.sn, s, p.latest, p.toad, p.configs, out,
-    );
+    let head = HeadPlaces {
+        first: p.id,
+        second: p.issuer,
+        sn: p.sn,
+        last: p.latest,
+    };
+    copy_front(held, s, &head, p.toad, p.configs, out);
     let behind = 120 + p.configs.size();
     let count = copy_backers(held, s, p, &mut out[behind..]);
-    let size = behind + 1 + 33 * count;
-    Written { ok: true, size }
+    Ok(behind + 1 + 33 * count)
 }

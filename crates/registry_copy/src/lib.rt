@@ -3,9 +3,8 @@
 
 pub mod copy;
 
-// How many bytes a state has, and whether they found room.
+// A next state did not find room: how many bytes it has.
 #[derive(Clone, Copy)]
-pub struct Written {
-    pub ok: bool,
+pub struct TooShort {
     pub size: usize,
 }

@@ -7,6 +7,7 @@
 --     length-next                    how many members there are then
 --     counted, few-next, most-next   how many members there are, by how many survive; at most 32; and no more than are held and added
 --     size-next                      how many bytes a next state has
+--     sized                          the bounds of what its size is summed of, and the sum
 use Prim.Native.Nat.{ℕ, zero, suc, ◌+◌, ◌*◌, ◌≤◌, min}
 use mathlib.Core.Path.{◌≡◌, refl, sym, ◌∙◌}
 use mathlib.Core.Bool.{Bool, true, false, cond}
@@ -25,7 +26,7 @@ use Rattle.codec_cursor.specs.declared.Cursor.{Cursor}
 use Rattle.codec_cursor.specs.Readers.{read_prefix, times}
 use Rattle.codec_cursor.specs.declared.Read.{Read}
 use Rattle.codec.proofs.Loops.{length-times}
-use Rattle.registry_bytes.proofs.StateWrites.{length-state}
+use Rattle.registry_bytes.proofs.StateWrites.{few-configs, length-state}
 use Rattle.registry_members.specs.Updated.{survivors, updated_members}
 use Rattle.registry_members.proofs.Survivors.{survivors-snoc, survivors-fewer}
 use Rattle.registry_room.specs.declared.NextState.{NextState}
@@ -105,3 +106,8 @@ module _ (held s : List ℕ) (p : NextState) where
   unfolding next_bytes
   size-next =
       length-state (read_matter held p.id) (read_matter held p.issuer) p.sn (read_matter s p.latest) p.toad.0 (view_configs p.configs) (next_members held s p)
+
+  pub sized : (u v k : ℕ) → u ≡ length (survivors (members_in s p.cuts) (members_in held p.current)) → v ≡ min p.additions.count 16 → k ≡ length (view_configs p.configs) → length p.configs.codes ≡ 8 → (u + v ≤ 32) × ((k ≤ 8) × (121 + k + 33 * (u + v) ≡ length (next_bytes held s p)))
+  sized u v k e f g full =
+      let n = counted u v e f in
+      (n.1, (omega (arith, few-configs p.configs full), omega (arith, n.0, size-next)))

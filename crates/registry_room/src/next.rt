@@ -17,20 +17,17 @@ pub fn surviving(held: &[u8], current: Listed, s: &[u8], cuts: Listed) -> usize
     let m = at_most_16(cuts.count);
     let mut c = current.start;
     let mut left: usize = 0;
-    let mut i: usize = 0;
-    while i < n {
+    for _i in 0..n {
         let p = c.prefix(held);
-        let cut = found_in(s, cuts.start, m, p.value);
         c = p.next;
-        i += 1;
-        if !cut {
+        if !found_in(s, cuts.start, m, p.value) {
             left += 1;
         }
     }
     left
 }
 
-// How many bytes a next state has.
+// How many bytes a next state has. It is handed on by value, here and where it is written: of a struct behind a reference the prover does not know how long its arrays are, so the bound of the sum was not proved.
 pub fn next_size(held: &[u8], s: &[u8], p: NextState) -> usize
     ensures { result ≡ length (next_bytes held.now s.now p) }
 {

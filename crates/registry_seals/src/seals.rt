@@ -10,18 +10,17 @@ use codec_cursor::Cursor;
 fn seal_section<'a>(event: &'a [u8]) -> &'a [u8]
     ensures { result.now ≡ seal_section event.now }
 {
-    let n = event.len();
-    if n < 82 {
-        return &event[n..];
+    match event.get(82..) {
+        Some(section) => section,
+        None => &[],
     }
-    &event[82..]
 }
 
 // The evidence's event where it carries one, else the message's. One that is not there has no bytes.
 pub fn chosen<'a>(evidence: &'a [u8], message: &'a [u8]) -> &'a [u8]
     ensures { result.now ≡ chosen evidence.now message.now }
 {
-    if evidence.len() == 0 {
+    if evidence.is_empty() {
         return message;
     }
     evidence
@@ -34,7 +33,7 @@ pub fn chosen_seals<'a>(evidence: &'a [u8], message: &'a [u8]) -> &'a [u8]
     seal_section(chosen(evidence, message))
 }
 
-// Whether a section holds exactly one seal, the event seal with this i, s and d. The seal is compared where it stands.
+// Whether a section holds exactly one seal, the event seal with this i, s and d. The seal is compared where it stands. The tests are joined by `&`, with no branch: most seals pass them all.
 pub fn anchor_seals(section: &[u8], i: Matter, s: Sn, d: Said) -> bool
     ensures { result ≡ anchor_seals section.now i s d }
 {

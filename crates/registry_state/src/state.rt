@@ -15,6 +15,7 @@ use codec::section::{is_config, pass_prefixes, read_configs, read_prefixes};
 use codec::{Configs, Cursor, Read};
 use events::Members;
 use events_toad::Toad;
+use registry_bytes::HeadParts;
 use registry_bytes::writer::{state_size, write_registry};
 
 impl RegistryState {
@@ -37,7 +38,7 @@ impl RegistryState {
         }
     }
 
-    // Whether its counts, letters and config bytes are within the limits.
+    // Whether its counts, letters and config bytes are within the limits. The tests are joined by `&`, with no branch: most states pass them all.
     pub fn well_formed(self) -> bool
         ensures { result ≡ well_registry self }
     {
@@ -51,24 +52,20 @@ impl RegistryState {
     pub fn size(self) -> usize
         ensures { result ≡ length (registry_bytes (view_registry self)) }
     {
-        state_size(self.configs, self.backers)
+        state_size(self.configs, &self.backers)
     }
 
     // Stores all its bytes or none, and answers which.
     pub fn write(self, out: &mut [u8], at: usize) -> bool
         ensures { (result ≡ room out.old at (length (registry_bytes (view_registry self)))) × (out.new ≡ put out.old at (registry_bytes (view_registry self))) }
     {
-        write_registry(
-            out,
-            at,
-            self.id.0,
-            self.issuer,
-            self.sn,
-            self.latest.0,
-            self.toad,
-            self.configs,
-            self.backers,
-        )
+        let head = HeadParts {
+            first: self.id.0,
+            second: self.issuer,
+            sn: self.sn,
+            last: self.latest.0,
+        };
+        write_registry(out, at, &head, self.toad, self.configs, &self.backers)
     }
 
     // Behind a state that is not wanted. It is held to its layout.
@@ -126,10 +123,8 @@ pub fn all_configs(configs: Configs) -> bool
 fn all_backers(backers: Members) -> bool
     ensures { result ≡ all is_backer (view backers) }
 {
-    let n = backers.size();
-    for i in 0..n {
-        let backer = backers.items[i];
-        if !backer.0.is_basic() {
+    for i in 0..backers.size() {
+        if !backers.items[i].0.is_basic() {
             return false;
         }
     }

@@ -7,6 +7,7 @@ use crate::{CredentialAt, CredentialState};
 use cesr::{Matter, Said};
 use cesr_sn::Sn;
 use codec_cursor::{Cursor, Read};
+use registry_head::HeadParts;
 use registry_head::head::write_credential;
 
 impl CredentialState {
@@ -35,14 +36,13 @@ impl CredentialState {
     pub fn write(self, out: &mut [u8], at: usize) -> bool
         ensures { (result ≡ room out.old at 115) × (out.new ≡ put out.old at (credential_bytes self)) }
     {
-        write_credential(
-            out,
-            at,
-            self.registry.0,
-            self.credential.0,
-            self.sn,
-            self.head.0,
-        )
+        let head = HeadParts {
+            first: self.registry.0,
+            second: self.credential.0,
+            sn: self.sn,
+            last: self.head.0,
+        };
+        write_credential(out, at, &head)
     }
 
     #[tactic(auto, unfolding(crate::specs::CredentialStates::read_credential))]

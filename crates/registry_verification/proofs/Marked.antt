@@ -6,11 +6,11 @@
 use Prim.Native.Nat.{ℕ, zero, suc, ◌+◌, ◌<◌, ◌≤◌}
 use mathlib.Core.Path.{◌≡◌, refl, ap, sym, ◌∙◌}
 use mathlib.Core.List.{List, [], ◌∷◌, ◌++◌}
-use mathlib.Core.Bool.{Bool, true, false, cond, ◌&&◌, ◌||◌, or-false}
+use mathlib.Core.Bool.{Bool, true, false, not, false≢true, cond, ◌&&◌, ◌||◌, or-false}
 use native.Mathlib.Numerals.{add-one}
 use native.Mathlib.Omega.{arith}
 use native.Mathlib.Decide.{ℕ_discrete}
-use borrow.Author.Tests.{eq-eqb, ne_eqb, eqb-true, eqb-false, ltb-true, lt-ltb}
+use borrow.Author.Tests.{eq-eqb, ne_eqb, eqb-true, ltb-true, lt-ltb}
 use lib.Dec.{eqb, ltb}
 use lib.ListN.{length, get_or, set, length-set}
 use lib.Seq.{get_or-set_same, get_or-set_other}
@@ -24,12 +24,12 @@ use Rattle.registry_signatures.specs.SignatureSections.{read_signature}
 use Rattle.registry_signatures.specs.declared.Signature.{Signature}
 use Rattle.registry_verification.specs.Receipts.{has_good, receipts, Marks, marked}
 
--- a bit as a mark
+-- a bit as a number
 abbrev bit : Bool → ℕ
 bit b = cond b 1 0
 
 pub record Marked (n : ℕ) (m : Marks) (l : List Signature) : Type 0 where
-  pub seen : (k : ℕ) → k < n → get_or m.seen k 0 ≡ bit (has_good k l)
+  pub seen : (k : ℕ) → k < n → get_or m.seen k false ≡ has_good k l
   pub valid : m.valid ≡ receipts n l
 
 pub good-snoc : (i : ℕ) (l : List Signature) (x : Signature) → has_good i (l ++ (x ∷ [])) ≡ (has_good i l || (eqb x.index i && eqb x.verdict 1))
@@ -48,7 +48,7 @@ module _ (n : ℕ) (m : Marks) (l : List Signature) (x : Signature) (h : Marked 
 
   kept : ((k : ℕ) → k < n → has_good k more ≡ has_good k l) → Marked n m more
   unfolding receipts
-  kept e = record { seen = λ k b. h.seen k b ∙ ap bit (sym (e k b)); valid = h.valid ∙ sym (count_same (λ i. has_good i more) (λ i. has_good i l) n e) }
+  kept e = record { seen = λ k b. h.seen k b ∙ sym (e k b); valid = h.valid ∙ sym (count_same (λ i. has_good i more) (λ i. has_good i l) n e) }
 
   not_good : (ltb x.index n && eqb x.verdict 1) ≡ false → (k : ℕ) → k < n → has_good k more ≡ has_good k l
   not_good e k b = good-snoc k l x ∙ ap (λ (t : Bool). has_good k l || t) (go (eqb x.index k) refl) ∙ or-false (has_good k l)
@@ -67,7 +67,7 @@ module _ (n : ℕ) (m : Marks) (l : List Signature) (x : Signature) (h : Marked 
       go true q = let e : has_good k l ≡ true = ap (λ (j : ℕ). has_good j l) (sym (eqb-true x.index k q)) ∙ g in rw e
       go false q = or-false (has_good k l)
 
-  fresh : x.index < n → n ≤ length m.seen → eqb x.verdict 1 ≡ true → has_good x.index l ≡ false → Marked n (record { seen = set m.seen x.index 1; valid = m.valid + 1 }) more
+  fresh : x.index < n → n ≤ length m.seen → eqb x.verdict 1 ≡ true → has_good x.index l ≡ false → Marked n (record { seen = set m.seen x.index true; valid = m.valid + 1 }) more
   unfolding receipts
   fresh b len v g =
       record {
@@ -81,29 +81,29 @@ module _ (n : ℕ) (m : Marks) (l : List Signature) (x : Signature) (h : Marked 
       other : (k : ℕ) → k < n → (k ≡ x.index → ⊥) → has_good k l ≡ has_good k more
       other k c d = sym (good-snoc k l x ∙ rw (ne_eqb x.index k (λ e. d (sym e))) (or-false (has_good k l)))
 
-      go : (k : ℕ) → k < n → Dec (k ≡ x.index) → get_or (set m.seen x.index 1) k 0 ≡ bit (has_good k more)
-      go k c (yes e) = ap (λ (j : ℕ). get_or (set m.seen x.index 1) j 0) e ∙ get_or-set_same m.seen x.index 1 0 (omega arith) ∙ sym (ap (λ (j : ℕ). bit (has_good j more)) e ∙ ap bit here)
-      go k c (no d) = get_or-set_other m.seen x.index k 1 0 d ∙ h.seen k c ∙ ap bit (other k c d)
+      go : (k : ℕ) → k < n → Dec (k ≡ x.index) → get_or (set m.seen x.index true) k false ≡ has_good k more
+      go k c (yes e) = ap (λ (j : ℕ). get_or (set m.seen x.index true) j false) e ∙ get_or-set_same m.seen x.index true false (omega arith) ∙ sym (ap (λ (j : ℕ). has_good j more) e ∙ here)
+      go k c (no d) = get_or-set_other m.seen x.index k true false d ∙ h.seen k c ∙ other k c d
 
   pub marks-step : n ≤ length m.seen → Marked n (marked n m x) more
   unfolding marked
   marks-step len = go (ltb x.index n && eqb x.verdict 1) refl
     where
-      second : (t u : Bool) → has_good x.index l ≡ t → eqb (get_or m.seen x.index 0) 0 ≡ u → x.index < n → eqb x.verdict 1 ≡ true → Marked n (cond u (record { seen = set m.seen x.index 1; valid = m.valid + 1 }) m) more
-      second true true g e b v = absurd (omega (arith, sym (h.seen x.index b ∙ ap bit g) ∙ eqb-true (get_or m.seen x.index 0) 0 e))
+      second : (t u : Bool) → has_good x.index l ≡ t → not (get_or m.seen x.index false) ≡ u → x.index < n → eqb x.verdict 1 ≡ true → Marked n (cond u (record { seen = set m.seen x.index true; valid = m.valid + 1 }) m) more
+      second true true g e b v = absurd (false≢true (sym (ap not (h.seen x.index b ∙ g)) ∙ e))
       second true false g e b v = kept (known b g)
       second false true g e b v = fresh b len v g
-      second false false g e b v = absurd (eqb-false (get_or m.seen x.index 0) 0 e (h.seen x.index b ∙ ap bit g))
+      second false false g e b v = absurd (false≢true (sym e ∙ ap not (h.seen x.index b ∙ g)))
 
-      go : (t : Bool) → (ltb x.index n && eqb x.verdict 1) ≡ t → Marked n (cond (t && eqb (get_or m.seen x.index 0) 0) (record { seen = set m.seen x.index 1; valid = m.valid + 1 }) m) more
+      go : (t : Bool) → (ltb x.index n && eqb x.verdict 1) ≡ t → Marked n (cond (t && not (get_or m.seen x.index false)) (record { seen = set m.seen x.index true; valid = m.valid + 1 }) m) more
       go true e =
-          second (has_good x.index l) (eqb (get_or m.seen x.index 0) 0) refl refl
+          second (has_good x.index l) (not (get_or m.seen x.index false)) refl refl
           (ltb-true x.index n (and_left (ltb x.index n) (eqb x.verdict 1) e))
           (and_right (ltb x.index n) (eqb x.verdict 1) e)
       go false e = kept (not_good e)
 
 -- no list, no marks
-pub no-marks : (n : ℕ) (seen : List ℕ) → ((k : ℕ) → k < n → get_or seen k 0 ≡ 0) → Marked n (record { seen = seen; valid = 0 }) []
+pub no-marks : (n : ℕ) (seen : List Bool) → ((k : ℕ) → k < n → get_or seen k false ≡ false) → Marked n (record { seen = seen; valid = 0 }) []
 unfolding has_good receipts
 no-marks n seen e = record { seen = e; valid = sym (count_none (λ i. false) n (λ k b. refl)) }
 
@@ -123,13 +123,13 @@ receipts-below n l = count-below (λ i. has_good i l) n
 
 -- what a signature does to the marks, by its tests
 module _ (n : ℕ) (m : Marks) (x : Signature) where
-  pub marked-set : (ltb x.index n && eqb x.verdict 1) ≡ true → get_or m.seen x.index 0 ≡ 0 → record { seen = set m.seen x.index 1; valid = m.valid + 1 } ≡ marked n m x
+  pub marked-set : (ltb x.index n && eqb x.verdict 1) ≡ true → get_or m.seen x.index false ≡ false → record { seen = set m.seen x.index true; valid = m.valid + 1 } ≡ marked n m x
   unfolding marked
-  marked-set e f = rw (e, eq-eqb (get_or m.seen x.index 0) 0 f)
+  marked-set e f = rw (e, f)
 
-  pub marked-twice : (ltb x.index n && eqb x.verdict 1) ≡ true → (get_or m.seen x.index 0 ≡ 0 → ⊥) → m ≡ marked n m x
+  pub marked-twice : (ltb x.index n && eqb x.verdict 1) ≡ true → get_or m.seen x.index false ≡ true → m ≡ marked n m x
   unfolding marked
-  marked-twice e f = rw (e, ne_eqb (get_or m.seen x.index 0) 0 f)
+  marked-twice e f = rw (e, f)
 
   pub marked-bad : (ltb x.index n && eqb x.verdict 1) ≡ false → m ≡ marked n m x
   unfolding marked
@@ -137,10 +137,10 @@ module _ (n : ℕ) (m : Marks) (x : Signature) where
 
 length_marked : (n : ℕ) (m : Marks) (x : Signature) → length (marked n m x).seen ≡ length m.seen
 unfolding marked
-length_marked n m x = go ((ltb x.index n && eqb x.verdict 1) && eqb (get_or m.seen x.index 0) 0)
+length_marked n m x = go ((ltb x.index n && eqb x.verdict 1) && not (get_or m.seen x.index false))
   where
-    go : (t : Bool) → length (cond t (record { seen = set m.seen x.index 1; valid = m.valid + 1 }) m).seen ≡ length m.seen
-    go true = length-set m.seen x.index 1
+    go : (t : Bool) → length (cond t (record { seen = set m.seen x.index true; valid = m.valid + 1 }) m).seen ≡ length m.seen
+    go true = length-set m.seen x.index true
     go false = refl
 
 -- a turn of the walk: one signature more is read, and marked

@@ -1,5 +1,5 @@
 -- Receipts of backers (docs/RULES.md, "Receipts").
-use Rattle.std.specs.Prelude.{ℕ, ◌+◌, List, [], ◌∷◌, Bool, false, cond, ◌&&◌, ◌||◌, eqb, ltb, get_or, set}
+use Rattle.std.specs.Prelude.{ℕ, ◌+◌, List, [], ◌∷◌, Bool, true, false, not, cond, ◌&&◌, ◌||◌, eqb, ltb, get_or, set}
 use Rattle.laws.specs.Count.{count}
 use Rattle.registry_signatures.specs.declared.Signature.{Signature}
 
@@ -12,14 +12,14 @@ has_good i (x ∷ l) = (eqb x.index i && eqb x.verdict 1) || has_good i l
 unfoldable pub receipts : ℕ → List Signature → ℕ
 receipts n l = count (λ i. has_good i l) n
 
--- a mark for each backer, 0 or 1, and how many are set
+-- a mark for each backer, and how many are set
 pub record Marks : Type 0 where
-  pub seen : List ℕ
+  pub seen : List Bool
   pub valid : ℕ
 
 -- a good signature sets the mark of its backer, where that is not set yet
 unfoldable pub marked : ℕ → Marks → Signature → Marks
 marked n m x =
-    cond ((ltb x.index n && eqb x.verdict 1) && eqb (get_or m.seen x.index 0) 0)
-    (record { seen = set m.seen x.index 1; valid = m.valid + 1 })
+    cond ((ltb x.index n && eqb x.verdict 1) && not (get_or m.seen x.index false))
+    (record { seen = set m.seen x.index true; valid = m.valid + 1 })
     m

@@ -13,26 +13,21 @@ pub fn valid_receipts(s: &[u8], signatures: Counted, backers: usize) -> usize
     ensures { result ≡ receipts (min backers 16) (signatures_in s.now signatures) }
 {
     let n = at_most_16(backers);
-    let count = signatures.count;
     let mut c = Cursor {
         ok: true,
         at: signatures.from,
     };
-    let mut seen = [0u8; 16];
+    let mut seen = [false; 16];
     let mut valid: usize = 0;
-    let mut i: usize = 0;
-    while i < count {
+    for _i in 0..signatures.count {
         let x = read_signature(c, s);
         let signature = x.value;
         let at = signature.index as usize;
         let good = (at < n) & (signature.verdict == 1);
         c = x.next;
-        i += 1;
-        if good {
-            if seen[at] == 0 {
-                seen[at] = 1;
-                valid += 1;
-            }
+        if good && !seen[at] {
+            seen[at] = true;
+            valid += 1;
         }
     }
     valid

@@ -1,21 +1,11 @@
-use mathlib.Core.Path.{sym, ◌∙◌}
-use Prim.Native.Nat.{◌+◌}
-use lib.ListN.{length}
-use borrow.Author.Tests.{leb-true}
-use Rattle.laws.proofs.Number.{read_whole, read_none}
+use mathlib.Core.Path.{◌∙◌}
+use Rattle.cesr_number.proofs.BeBytes.{number-16, read-part, read-short}
 use Rattle.cesr_number.proofs.number.read_u16.Goals as goal
 
-pub pair-requires : goal.pair-requires
-pair-requires c =
-    let a = c.args in
-    leb-true (a.at + 2) (length a.s.now) (sym c.has_room.ensures ∙ c.if-has_room.true)
+pub returns-in-Some : goal.returns-in-Some
+returns-in-Some c =
+    let b = c.in-Some.ensures in
+    c.from_be_bytes.ensures ∙ number-16 _ ∙ read-part _ _ c.args.at 2 b.0 b.1
 
-pub returns-then-has_room : goal.returns-then-has_room
-returns-then-has_room c =
-    let a = c.args in
-    c.pair.ensures ∙ sym (read_whole a.s.now a.at 2 (sym c.has_room.ensures ∙ c.if-has_room.true))
-
-pub returns : goal.returns
-returns c =
-    let a = c.args in
-    sym (read_none a.s.now a.at 2 (sym c.has_room.ensures ∙ c.if-has_room.false))
+pub returns-in-None : goal.returns-in-None
+returns-in-None c = read-short _ c.args.at 2 c.in-None.ensures

@@ -1,4 +1,3 @@
-use Prim.Native.Nat.{◌≤◌, ◌-◌}
 use mathlib.Core.Path.{◌≡◌}
 use lib.ListN.{length, take}
 use lib.Seq.{sets}
@@ -7,7 +6,4 @@ use Rattle.codec_laws.specs.Layout.{joined, prefix_bytes}
 use Rattle.registry_bytes.proofs.writer.write_backers.Given as goal
 
 abbrev pub invariant-loop-i : goal.invariant-loop-i
-invariant-loop-i l = (l.i ≤ l.n) × (length l.out ≡ length l.initial.out) × (l.out ≡ sets l.initial.out 1 (joined prefix_bytes (take l.i (view l.backers))))
-
-abbrev pub decreases-loop-i : goal.decreases-loop-i
-decreases-loop-i l = l.n - l.i
+invariant-loop-i l = (length l.out ≡ length l.initial.out) × (l.out ≡ sets l.initial.out 1 (joined prefix_bytes (take l.i (view l.backers))))

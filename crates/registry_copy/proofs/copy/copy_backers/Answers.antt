@@ -1,7 +1,6 @@
-use Prim.Native.Nat.{◌+◌, ◌≤◌}
-use mathlib.Core.Path.{◌≡◌, ◌∙◌}
+use mathlib.Core.Path.{◌∙◌}
 use native.Mathlib.Omega.{arith}
-use lib.ListN.{length, length-set}
+use lib.ListN.{length-set}
 use Rattle.events_tel.specs.TelEvents.{members_in}
 use Rattle.codec.specs.Layout.{section_bytes}
 use Rattle.registry_members.specs.Updated.{survivors, updated_members}
@@ -16,35 +15,23 @@ copy_survivors-left-requires c =
 
 pub overflow_add-count : goal.overflow_add-count
 overflow_add-count c =
-    let counts : ((c.copy_survivors-left.result + c.at_most_16.result ≡ length (next_members c.args.held.now c.args.s.now c.args.p)) × (c.copy_survivors-left.result + c.at_most_16.result ≤ 32)) =
-    let w = c.copy_survivors-left in
-    let z = c.args in
-    counted z.held.now z.s.now z.p w.result c.at_most_16.result w.ensures.left c.at_most_16.ensures in
-    omega (arith, (counts).1)
+    let a = c.args in
+    omega (arith, (counted a.held.now a.s.now a.p _ _ c.copy_survivors-left.ensures.left c.at_most_16.ensures).1)
 
 pub overflow_cast-out : goal.overflow_cast-out
 overflow_cast-out c =
-    let counts : ((c.copy_survivors-left.result + c.at_most_16.result ≡ length (next_members c.args.held.now c.args.s.now c.args.p)) × (c.copy_survivors-left.result + c.at_most_16.result ≤ 32)) =
-    let w = c.copy_survivors-left in
-    let z = c.args in
-    counted z.held.now z.s.now z.p w.result c.at_most_16.result w.ensures.left c.at_most_16.ensures in
-    omega (arith, (counts).1)
+    let a = c.args in
+    omega (arith, (counted a.held.now a.s.now a.p _ _ c.copy_survivors-left.ensures.left c.at_most_16.ensures).1)
 
 pub overflow_mul-left : goal.overflow_mul-left
 overflow_mul-left c =
-    let counts : ((c.copy_survivors-left.result + c.at_most_16.result ≡ length (next_members c.args.held.now c.args.s.now c.args.p)) × (c.copy_survivors-left.result + c.at_most_16.result ≤ 32)) =
-    let w = c.copy_survivors-left in
-    let z = c.args in
-    counted z.held.now z.s.now z.p w.result c.at_most_16.result w.ensures.left c.at_most_16.ensures in
-    omega (arith, (counts).1)
+    let a = c.args in
+    omega (arith, (counted a.held.now a.s.now a.p _ _ c.copy_survivors-left.ensures.left c.at_most_16.ensures).1)
 
 pub overflow_add-left : goal.overflow_add-left
 overflow_add-left c =
-    let counts : ((c.copy_survivors-left.result + c.at_most_16.result ≡ length (next_members c.args.held.now c.args.s.now c.args.p)) × (c.copy_survivors-left.result + c.at_most_16.result ≤ 32)) =
-    let w = c.copy_survivors-left in
-    let z = c.args in
-    counted z.held.now z.s.now z.p w.result c.at_most_16.result w.ensures.left c.at_most_16.ensures in
-    omega (arith, (counts).1)
+    let a = c.args in
+    omega (arith, (counted a.held.now a.s.now a.p _ _ c.copy_survivors-left.ensures.left c.at_most_16.ensures).1)
 
 pub copy_members-requires : goal.copy_members-requires
 copy_members-requires c =
@@ -52,22 +39,14 @@ copy_members-requires c =
     rw length-set
     (omega (arith, c.requires, w.ensures.left, w.auto.out, length-next c.args.held.now c.args.s.now c.args.p))
 
-pub shape_of-out : goal.shape_of-out
-shape_of-out c =
-    let w = c.copy_survivors-left in
-    c.copy_members.auto.out ∙ rw length-set w.auto.out
-
 pub returns : goal.returns
 unfolding section_bytes next_members updated_members
 returns c =
-    let counts : ((c.copy_survivors-left.result + c.at_most_16.result ≡ length (next_members c.args.held.now c.args.s.now c.args.p)) × (c.copy_survivors-left.result + c.at_most_16.result ≤ 32)) =
+    let a = c.args in
     let w = c.copy_survivors-left in
-    let z = c.args in
-    counted z.held.now z.s.now z.p w.result c.at_most_16.result w.ensures.left c.at_most_16.ensures in
-    let w = c.copy_survivors-left in
-    let out = c.args.out.now in
-    let u = survivors (members_in c.args.s.now c.args.p.cuts) (members_in c.args.held.now c.args.p.current) in record {
-      count = (counts).0;
+    let n = (counted a.held.now a.s.now a.p _ _ w.ensures.left c.at_most_16.ensures).0 in
+    let u = survivors (members_in a.s.now a.p.cuts) (members_in a.held.now a.p.current) in record {
+      count = n;
       stored = c.copy_members.ensures
-          ∙ rw (w.ensures.stored, set_before out 0 1 _ _ (omega arith), (counts).0, w.ensures.left) (backers-sets _ u (members_in c.args.s.now c.args.p.additions));
+          ∙ rw (w.ensures.stored, set_before a.out.now 0 1 _ _ (omega arith), n, w.ensures.left) (backers-sets _ u (members_in a.s.now a.p.additions));
     }

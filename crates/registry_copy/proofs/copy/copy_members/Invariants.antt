@@ -1,4 +1,3 @@
-use Prim.Native.Nat.{◌-◌, ◌≤◌}
 use mathlib.Core.Path.{◌≡◌}
 use lib.ListN.{length}
 use lib.Seq.{sets}
@@ -8,10 +7,6 @@ use Rattle.registry_copy.proofs.copy.copy_members.Given as goal
 
 abbrev pub invariant-loop-i : goal.invariant-loop-i
 invariant-loop-i l =
-    (l.i ≤ l.n)
-    × (length l.out ≡ length l.initial.out)
+    (length l.out ≡ length l.initial.out)
     × (l.c ≡ (times l.i read_prefix l.s l.initial.c).next)
     × (l.out ≡ sets l.initial.out l.at (joined prefix_bytes (times l.i read_prefix l.s l.initial.c).value))
-
-abbrev pub decreases-loop-i : goal.decreases-loop-i
-decreases-loop-i l = l.n - l.i

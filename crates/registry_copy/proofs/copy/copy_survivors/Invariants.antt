@@ -1,4 +1,4 @@
-use Prim.Native.Nat.{◌-◌, ◌≤◌}
+use Prim.Native.Nat.{◌≤◌}
 use mathlib.Core.Path.{◌≡◌}
 use lib.ListN.{length}
 use lib.Seq.{sets}
@@ -9,12 +9,8 @@ use Rattle.registry_copy.proofs.copy.copy_survivors.Given as goal
 
 abbrev pub invariant-loop-i : goal.invariant-loop-i
 invariant-loop-i l =
-    (l.i ≤ l.n)
-    × (l.left ≤ l.i)
-    × (l.c ≡ (times l.i read_prefix l.held l.initial.c).next)
-    × (l.left ≡ length (survivors (times l.m read_prefix l.s l.cuts.start).value (times l.i read_prefix l.held l.initial.c).value))
+    (l.left ≤ l._i)
+    × (l.c ≡ (times l._i read_prefix l.held l.initial.c).next)
+    × (l.left ≡ length (survivors (times l.m read_prefix l.s l.cuts.start).value (times l._i read_prefix l.held l.initial.c).value))
     × (length l.out ≡ length l.initial.out)
-    × (l.out ≡ sets l.initial.out 1 (joined prefix_bytes (survivors (times l.m read_prefix l.s l.cuts.start).value (times l.i read_prefix l.held l.initial.c).value)))
-
-abbrev pub decreases-loop-i : goal.decreases-loop-i
-decreases-loop-i l = l.n - l.i
+    × (l.out ≡ sets l.initial.out 1 (joined prefix_bytes (survivors (times l.m read_prefix l.s l.cuts.start).value (times l._i read_prefix l.held l.initial.c).value)))

@@ -1,4 +1,4 @@
-use Prim.Native.Nat.{◌-◌, ◌≤◌}
+use Prim.Native.Nat.{◌≤◌}
 use mathlib.Core.Path.{◌≡◌}
 use lib.ListN.{length}
 use Rattle.codec_cursor.specs.Readers.{read_prefix, times}
@@ -7,10 +7,6 @@ use Rattle.registry_room.proofs.next.surviving.Given as goal
 
 abbrev pub invariant-loop-i : goal.invariant-loop-i
 invariant-loop-i l =
-    (l.i ≤ l.n)
-    × (l.left ≤ l.i)
-    × (l.c ≡ (times l.i read_prefix l.held l.initial.c).next)
-    × (l.left ≡ length (survivors (times l.m read_prefix l.s l.cuts.start).value (times l.i read_prefix l.held l.initial.c).value))
-
-abbrev pub decreases-loop-i : goal.decreases-loop-i
-decreases-loop-i l = l.n - l.i
+    (l.left ≤ l._i)
+    × (l.c ≡ (times l._i read_prefix l.held l.initial.c).next)
+    × (l.left ≡ length (survivors (times l.m read_prefix l.s l.cuts.start).value (times l._i read_prefix l.held l.initial.c).value))

@@ -1,12 +1,10 @@
-use lib.ListN.{length}
-use borrow.Author.Tests.{eq-eqb, ne_eqb}
 use Rattle.registry_seals.specs.SealSections.{chosen}
 use Rattle.registry_seals.proofs.seals.chosen.Goals as goal
 
-pub returns-then-evidence-eq0 : goal.returns-then-evidence-eq0
+pub returns-then-is_empty : goal.returns-then-is_empty
 unfolding chosen
-returns-then-evidence-eq0 c = rw (eq-eqb (length c.args.evidence.now) 0 c.if-evidence-eq0.true)
+returns-then-is_empty c = rw (← c.if-is_empty.ensures)
 
 pub returns : goal.returns
 unfolding chosen
-returns c = rw (ne_eqb (length c.args.evidence.now) 0 c.if-evidence-eq0.false)
+returns c = rw (← c.if-is_empty.ensures)

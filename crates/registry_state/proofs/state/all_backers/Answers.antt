@@ -1,7 +1,6 @@
 use mathlib.Core.Path.{◌≡◌, sym, ap, ◌∙◌}
 use native.Mathlib.Omega.{arith}
 use borrow.Author.Count.{below_more}
-use borrow.Author.Tests.{not-true, not-false}
 use lib.ListN.{length, get_or}
 use Rattle.laws.proofs.Views.{length-mapped}
 use Rattle.events.specs.Members.{view, no_prefix}
@@ -14,28 +13,27 @@ pub loop-i-init : goal.loop-i-init
 loop-i-init c = λ k h. absurd (omega arith)
 
 pub offset_bounds-backers-i : goal.offset_bounds-backers-i
-offset_bounds-backers-i c = omega (arith, c.size-n.ensures)
+offset_bounds-backers-i c = omega (arith, c.size-i-end.ensures)
 
 pub bounds-backers-i : goal.bounds-backers-i
-bounds-backers-i c = omega (arith, c.size-n.ensures)
+bounds-backers-i c = omega (arith, c.size-i-end.ensures)
 
 pub returns-then-not-is_basic : goal.returns-then-not-is_basic
 returns-then-not-is_basic c =
-    let full : (length c.args.backers.items ≡ 16) =
-    search length-mapped in
-    let looked : (c.is_basic.result ≡ is_backer (get_or (view c.args.backers) c.loop-i.i no_prefix)) =
-    c.is_basic.ensures ∙ ap is_backer (view-at c.args.backers (full) c.loop-i.i (omega (arith, c.size-n.ensures))) in
-    let l = view c.args.backers in
-    sym (all-fail is_backer no_prefix l c.loop-i.i (omega (arith, c.size-n.ensures)) (sym (looked) ∙ not-true _ c.if-not-is_basic.true-raw))
+    let m = c.args.backers in
+    let full : (length m.items ≡ 16) = search length-mapped in
+    let i = c.loop-i.i in
+    let here : is_backer (get_or m.items i no_prefix) ≡ is_backer (get_or (view m) i no_prefix) = ap is_backer (view-at m full i (omega (arith, c.size-i-end.ensures))) in
+    sym (all-fail is_backer no_prefix (view m) i (omega (arith, c.size-i-end.ensures)) (sym here ∙ sym c.if-not-is_basic.ensures))
 
 pub loop-i-preserved : goal.loop-i-preserved
 loop-i-preserved c =
-    let full : (length c.args.backers.items ≡ 16) =
-    search length-mapped in
-    let looked : (c.is_basic.result ≡ is_backer (get_or (view c.args.backers) c.loop-i.i no_prefix)) =
-    c.is_basic.ensures ∙ ap is_backer (view-at c.args.backers (full) c.loop-i.i (omega (arith, c.size-n.ensures))) in
-    below_more _ _ c.loop-i.invariant (sym (looked) ∙ not-false _ c.if-not-is_basic.false-raw)
+    let m = c.args.backers in
+    let full : (length m.items ≡ 16) = search length-mapped in
+    let i = c.loop-i.i in
+    let here : is_backer (get_or m.items i no_prefix) ≡ is_backer (get_or (view m) i no_prefix) = ap is_backer (view-at m full i (omega (arith, c.size-i-end.ensures))) in
+    below_more _ _ c.loop-i.invariant (sym here ∙ sym c.if-not-is_basic.ensures)
 
 pub returns : goal.returns
 returns c =
-    sym (all_pass is_backer no_prefix (view c.args.backers) (λ k h. c.loop-i.invariant k (omega (arith, c.size-n.ensures))))
+    sym (all_pass is_backer no_prefix (view c.args.backers) (λ k h. c.loop-i.invariant k (omega (arith, c.size-i-end.ensures))))

@@ -1,4 +1,4 @@
-use Prim.Native.Nat.{◌-◌, ◌≤◌}
+use Prim.Native.Nat.{◌≤◌}
 use mathlib.Core.Path.{◌≡◌}
 use lib.ListN.{length}
 use Rattle.codec_cursor.specs.Readers.{times}
@@ -8,11 +8,7 @@ use Rattle.registry_verification.proofs.verification.valid_receipts.Given as goa
 
 abbrev pub invariant-loop-i : goal.invariant-loop-i
 invariant-loop-i l =
-    (l.i ≤ l.count)
-    × (l.n ≤ 16)
-    × (l.c ≡ (times l.i read_signature l.s l.initial.c).next)
-    × Marked l.n (record { seen = l.seen; valid = l.valid }) (times l.i read_signature l.s l.initial.c).value
+    (l.n ≤ 16)
+    × (l.c ≡ (times l._i read_signature l.s l.initial.c).next)
+    × Marked l.n (record { seen = l.seen; valid = l.valid }) (times l._i read_signature l.s l.initial.c).value
     × (length l.seen ≡ 16)
-
-abbrev pub decreases-loop-i : goal.decreases-loop-i
-decreases-loop-i l = l.count - l.i

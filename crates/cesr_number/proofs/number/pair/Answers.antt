@@ -1,7 +1,0 @@
-use native.Mathlib.Nat.{add-zero, zero-mul, zero-add}
-use Rattle.laws.specs.Number.{number}
-use Rattle.cesr_number.proofs.number.pair.Goals as goal
-
-pub returns : goal.returns
-unfolding number
-returns c = rw (c.join2.ensures, add-zero, zero-mul, zero-add)
