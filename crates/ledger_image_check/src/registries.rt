@@ -28,7 +28,7 @@ pub(crate) fn check_registries(s: &[u8]) -> SectionRead
         let g = RegistryState::read(next, s);
         let known = ids.contains(g.value.id);
         ok = ok & (g.next.ok & (registry_sound(g.value) & !known));
-        ids = ids.push(g.value.id);
+        ids.push(g.value.id);
         next = g.next;
         i += 1;
     }
