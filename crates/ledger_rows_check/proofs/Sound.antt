@@ -5,7 +5,7 @@
 --     Turn, unsound, repeated, passed     what a turn learns of its row, by the rows that the marks leave to be searched
 --     wrong_slots, too_many               what it answers where the sizes are wrong
 use Prim.Native.Nat.{ℕ, ◌+◌, ◌<◌, ◌≤◌}
-use mathlib.Core.Path.{◌≡◌, refl, sym, ap, ◌∙◌}
+use mathlib.Core.Path.{◌≡◌, refl, ◌∙◌}
 use mathlib.Core.Bool.{Bool, true, false, ◌&&◌, and-false}
 use mathlib.Core.List.{List}
 use native.Mathlib.Numerals.{add-one}

@@ -1,5 +1,3 @@
-use mathlib.Core.Path.{sym, ◌∙◌}
-use mathlib.Core.Bool.{and-true as and-unit}
 use Rattle.ledger_image_rows_check.specs.RowTests.{rows_stand}
 use Rattle.ledger_image_rows_check.proofs.rows.check_rows.Goals as goal
 
