@@ -14,7 +14,7 @@ pub fn registries_sound(registries: &[RegistryState], count: usize) -> bool
         return false;
     }
     for i in 0..count {
-        let g = registries[i];
+        let g = &registries[i];
         if !registry_sound(g) || find_registry(registries, i, g.id) < i {
             return false;
         }

@@ -40,8 +40,8 @@ fn backers_sound(backers: &[BasicPrefix]) -> bool
 }
 
 // The layout and limits of one registry, and its own reading rules.
-pub fn registry_sound(g: RegistryState) -> bool
-    ensures { result ≡ (well_registry g && sound_registry (view_registry g)) }
+pub fn registry_sound(g: &RegistryState) -> bool
+    ensures { result ≡ (well_registry g.now && sound_registry (view_registry g.now)) }
 {
     let backers = listed(&g.backers);
     let n = backers.len();

@@ -14,4 +14,4 @@ returns c =
       c.is_basic.ensures,
       c.listed-backers.ensures,
     )
-    (in_order c.args.g)
+    (in_order c.args.g.now)
