@@ -1,20 +1,27 @@
 // All reading rules of a ledger that is lent (docs/RULES.md, "Reading rules").
-ghost use Rattle.std.specs.Prelude.{◌≡◌, min, ltb};
+ghost use Rattle.std.specs.Prelude.{◌≡◌};
+ghost use Rattle.std.specs.List.{list_all, list_any};
+ghost use Rattle.cesr.specs.Primitives.{eq_said};
 ghost use Rattle.ledger_step.specs.Ledgers.{lent_ledger, sound};
 ghost use Rattle.ledger_check.specs.RowsHeld.{rows_held};
 
-use ledger_registries::registries::find_registry;
+use cesr::Said;
 use ledger_registries_check::check::registries_sound;
 use ledger_rows_check::check::rows_sound;
-use ledger_step::number::lesser;
+use ledger_step::slices::in_use;
 use registry_state::RegistryState;
 use registry_state_credential::CredentialState;
 
-// Whether a search among the first `count` of `len` states ended before the last of them.
-fn is_found(at: usize, count: usize, len: usize) -> bool
-    ensures { result ≡ ltb at (min count len) }
+fn has_id(registries: &[RegistryState], id: Said) -> bool
+    ensures { result ≡ list_any (λ g. eq_said g.id id) registries.now }
 {
-    (at < count) & (at < len)
+    registries.iter().any(|g| g.id.same(id))
+}
+
+fn all_held<'a>(registries: &'a [RegistryState], rows: &'a [CredentialState]) -> bool
+    ensures { result ≡ list_all (λ w. list_any (λ g. eq_said g.id w.registry) registries.now) rows.now }
+{
+    rows.iter().all(|w| has_id(registries, w.registry))
 }
 
 // Whether the registry of each of the first `row_count` rows is among the first `registry_count` registries.
@@ -26,17 +33,7 @@ pub fn rows_held<'a>(
 ) -> bool
     ensures { result ≡ rows_held registries.now registry_count rows.now row_count }
 {
-    let n = lesser(row_count, rows.len());
-    let mut i = 0;
-    while i < n {
-        let row = rows[i];
-        let at = find_registry(registries, registry_count, row.registry);
-        if !is_found(at, registry_count, registries.len()) {
-            return false;
-        }
-        i += 1;
-    }
-    true
+    all_held(in_use(registries, registry_count), in_use(rows, row_count))
 }
 
 // Whether a ledger keeps to every reading rule.

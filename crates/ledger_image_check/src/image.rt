@@ -15,7 +15,7 @@ pub fn check_image(image: &[u8]) -> Checked
     let rows_at = section.next.at;
     let rows = section.value;
     if section.next.ok & registries.ok {
-        if check_rows(image, rows_at, rows, registries.ids) {
+        if check_rows(image, rows_at, rows, &registries.ids) {
             return Checked {
                 ok: true,
                 registries: registries.ids.size(),

@@ -27,8 +27,8 @@ pub(crate) fn check_registries(s: &[u8]) -> SectionRead
     while i < count {
         let g = RegistryState::read(next, s);
         let known = ids.contains(g.value.id);
-        ok = ok & (g.next.ok & (registry_sound(g.value) & !known));
-        ids = ids.push(g.value.id);
+        ok = ok & (g.next.ok & (registry_sound(&g.value) & !known));
+        ids.push(g.value.id);
         next = g.next;
         i += 1;
     }

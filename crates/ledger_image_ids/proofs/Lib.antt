@@ -1,3 +1,3 @@
 pub use Rattle.ledger_step.proofs.Rules
-pub mod OneMore
+pub use Rattle.ledger_step.proofs.OneMore
 pub mod IdViews

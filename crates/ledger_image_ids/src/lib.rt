@@ -2,11 +2,13 @@
 #![tactic(auto)]
 
 ghost use Rattle.std.specs.Prelude.{◌≡◌, [], ◌≤◌, length};
+ghost use Rattle.std.specs.List.{list_any};
 ghost use Rattle.cesr.specs.Primitives.{eq_said};
 ghost use Rattle.ledger_step.specs.Tables.{has};
 ghost use Rattle.ledger_image_ids.specs.IdLists.{view_ids, pushed};
 
 use cesr::{Matter, Said};
+use ledger_step::slices::in_use;
 
 // The ids are the first `count` of the items.
 #[derive(Clone, Copy)]
@@ -16,6 +18,7 @@ pub struct Ids {
 }
 
 impl Ids {
+    #[tactic(auto, unfolding(crate::specs::IdLists::view_ids))]
     pub fn empty() -> Ids
         ensures { view_ids result ≡ [] }
     {
@@ -25,40 +28,42 @@ impl Ids {
         }
     }
 
+    #[tactic(auto, unfolding(crate::specs::IdLists::view_ids))]
+    pub fn as_slice(&self) -> &[Said]
+        ensures { result.now ≡ view_ids self.now }
+    {
+        in_use(&self.items, self.count)
+    }
+
     // How many there are: at most 16, whatever the count says.
-    pub fn size(self) -> usize
-        ensures value { result ≡ length (view_ids self) }
-        ensures self_len_bound { length (view_ids self) ≤ 16 }
+    #[tactic(auto, unfolding(crate::specs::IdLists::view_ids))]
+    pub fn size(&self) -> usize
+        ensures value { result ≡ length (view_ids self.now) }
+        ensures self_len_bound { length (view_ids self.now) ≤ 16 }
     {
-        let n = self.count;
-        if 16 < n { 16 } else { n }
+        self.as_slice().len()
     }
 
-    // `id` behind the others. Where there are 16 they come back as they were.
-    pub fn push(self, id: Said) -> Ids
-        ensures { view_ids result ≡ pushed (view_ids self) id }
+    // `id` behind the others. Where there are 16 they stay as they are.
+    #[tactic(auto, unfolding(crate::specs::IdLists::view_ids, crate::specs::IdLists::pushed))]
+    pub fn push(&mut self, id: Said)
+        ensures { view_ids self.new ≡ pushed (view_ids self.old) id }
     {
-        let n = self.count;
-        if 16 <= n {
-            return self;
+        if self.count < 16 {
+            self.items[self.count] = id;
+            self.count += 1;
         }
-        let mut m = self;
-        m.items[n] = id;
-        m.count = n + 1;
-        m
     }
 
-    // The items are looked at in the loop itself, since all of them are copied at every call.
-    pub fn contains(self, id: Said) -> bool
-        ensures { result ≡ has eq_said id (view_ids self) }
+    pub fn contains(&self, id: Said) -> bool
+        ensures { result ≡ has eq_said id (view_ids self.now) }
     {
-        let n = self.size();
-        let mut found = false;
-        let mut i: usize = 0;
-        while i < n {
-            found = found | self.items[i].same(id);
-            i += 1;
-        }
-        found
+        is_among(self.as_slice(), id)
     }
+}
+
+fn is_among(ids: &[Said], id: Said) -> bool
+    ensures { result ≡ list_any (λ x. eq_said x id) ids.now }
+{
+    ids.iter().any(|x| x.same(id))
 }

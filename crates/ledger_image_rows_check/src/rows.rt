@@ -31,18 +31,16 @@ fn has_key(s: &[u8], at: usize, n: usize, w: CredentialState) -> bool
     ensures { result ≡ has eq_pair (key_of w) (keys_from s.now at n) }
 {
     let mut found = false;
-    let mut i: usize = 0;
-    while i < n {
+    for i in 0..n {
         found = found | same_key(s, at + 115 * i, w);
-        i += 1;
     }
     found
 }
 
 // A row passes where its letters are right, its registry is held, its sn is 0 or 1, and its key is that of none before it. Only the first n before it are looked at: the caller knows that the others differ.
-fn row_passes(s: &[u8], at: usize, i: usize, ids: Ids, n: usize) -> bool
+fn row_passes(s: &[u8], at: usize, i: usize, ids: &Ids, n: usize) -> bool
     requires { (at + 115 * i + 115 ≤ length s.now) × OthersDiffer s.now at i n }
-    ensures { result ≡ row_passes s.now at (view_ids ids) i }
+    ensures { result ≡ row_passes s.now at (view_ids ids.now) i }
 {
     let place = Cursor {
         ok: true,
@@ -56,18 +54,16 @@ fn row_passes(s: &[u8], at: usize, i: usize, ids: Ids, n: usize) -> bool
 }
 
 // Whether each of the n rows that stand from a place on passes. For each remainder of a first word it is kept how many rows stand up to the last that has it: only they can have the key of a row with that remainder.
-fn rows_pass(s: &[u8], at: usize, n: usize, ids: Ids) -> bool
+fn rows_pass(s: &[u8], at: usize, n: usize, ids: &Ids) -> bool
     requires { at + 115 * n ≤ length s.now }
-    ensures { result ≡ rows_pass s.now at (view_ids ids) n }
+    ensures { result ≡ rows_pass s.now at (view_ids ids.now) n }
 {
     let mut marks = [0usize; 1024];
     let mut ok = true;
-    let mut i: usize = 0;
-    while i < n {
+    for i in 0..n {
         let slot = (read_u64(s, at + 115 * i + 34) % 1024) as usize;
         ok = ok & row_passes(s, at, i, ids, marks[slot]);
-        i += 1;
-        marks[slot] = i;
+        marks[slot] = i + 1;
     }
     ok
 }
@@ -76,21 +72,12 @@ fn rows_pass(s: &[u8], at: usize, n: usize, ids: Ids) -> bool
 fn ends_there(len: usize, at: usize, n: usize) -> bool
     ensures { result ≡ ends_there len at n }
 {
-    if 256 < n {
-        return false;
-    }
-    if len < at {
-        return false;
-    }
-    115 * n == len - at
+    n <= 256 && at <= len && 115 * n == len - at
 }
 
 // The rows of an image: n from a place on, behind registries with these ids.
-pub fn check_rows(s: &[u8], at: usize, n: usize, ids: Ids) -> bool
-    ensures { result ≡ rows_stand s.now at (view_ids ids) n }
+pub fn check_rows(s: &[u8], at: usize, n: usize, ids: &Ids) -> bool
+    ensures { result ≡ rows_stand s.now at (view_ids ids.now) n }
 {
-    if ends_there(s.len(), at, n) {
-        return rows_pass(s, at, n, ids);
-    }
-    false
+    ends_there(s.len(), at, n) && rows_pass(s, at, n, ids)
 }

@@ -1,4 +1,3 @@
 pub use Rattle.ledger_step.proofs.Rules
 pub use Rattle.ledger_step.proofs.TableChecks
-pub mod Find
 pub mod RegistryViews

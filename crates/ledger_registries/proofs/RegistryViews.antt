@@ -50,13 +50,11 @@ take-held zero gs = refl
 take-held (suc n) [] = refl
 take-held (suc n) (g ∷ gs) = ap (λ (l : List Held). held_of g ∷ l) (take-held n gs)
 
-pub read-there : (gs : List RegistryState) (i : ℕ) → i < length gs → (held_of (get_or gs i blank) ≡ get_or (map held_of gs) i no_held) × (i < length gs → get_or gs i blank ≡ get_or gs i blank)
-read-there gs i h =
-    (sym (get_or-map held_of gs i blank) ∙ get_d_any (map held_of gs) i (held_of blank) no_held (omega (arith, length-map gs held_of)), λ _. refl)
+pub read-there : (gs : List RegistryState) (i : ℕ) → i < length gs → held_of (get_or gs i blank) ≡ get_or (map held_of gs) i no_held
+read-there gs i h = sym (get_or-map held_of gs i blank) ∙ get_d_any (map held_of gs) i (held_of blank) no_held (omega (arith, length-map gs held_of))
 
-pub read_past : (gs : List RegistryState) (i : ℕ) (g : RegistryState) → length gs ≤ i → view_registry g ≡ no_registry → (held_of g ≡ get_or (map held_of gs) i no_held) × (i < length gs → g ≡ get_or gs i blank)
-read_past gs i g h e =
-    (blank-held g e ∙ sym (get_or-eq_default (map held_of gs) no_held {n = i} (omega (arith, length-map gs held_of))), λ l. absurd (omega arith))
+pub read_past : (gs : List RegistryState) (i : ℕ) (g : RegistryState) → length gs ≤ i → view_registry g ≡ no_registry → held_of g ≡ get_or (map held_of gs) i no_held
+read_past gs i g h e = blank-held g e ∙ sym (get_or-eq_default (map held_of gs) no_held {n = i} (omega (arith, length-map gs held_of)))
 
 -- the ledger's look-up: a registry is held exactly where the place is among those in use, and then it is the one there
 pub found-registry : (gs : List RegistryState) (count : ℕ) (id : Said) → find id_of eq_said id (map held_of (take count gs)) ≡ cond (ltb (find_registry gs count id) (min count (length gs))) (some (held_of (get_or gs (find_registry gs count id) blank))) none

@@ -1,15 +1,16 @@
 -- How a loop finds that registries are sound, one registry at a time: the laws of `TableChecks`, by the registries that are lent.
 --     Kept                                what holds where the loop has come to registry i: those before it are sound
 --     at-start, at-good, at-bad, at-end   it holds at the first registry, a turn keeps it, and what the loop answers is what the rules say
---     asked_so                            what a turn asks of its registry
---     enough, wrong_size                  what the test of the sizes says
+--     unsound, repeated, passed           what a turn learns of its registry
+--     wrong_slots, too_many               what it answers where the sizes are wrong
 use Prim.Native.Nat.{ℕ, ◌+◌, ◌<◌, ◌≤◌}
 use mathlib.Core.Path.{◌≡◌, sym, ap, ◌∙◌}
-use mathlib.Core.Bool.{Bool, true, false, ◌&&◌}
+use mathlib.Core.Bool.{Bool, true, false, ◌&&◌, and-false}
 use mathlib.Core.List.{List, map}
 use native.Mathlib.Omega.{arith}
 use native.Mathlib.Numerals.{add-one}
-use lib.Dec.{eqb, leb}
+use borrow.Author.Tests.{le-leb, lt-leb}
+use lib.Dec.{leb}
 use lib.ListN.{length, length-map, get_or, take}
 use Rattle.cesr.specs.Primitives.{eq_said}
 use Rattle.registry_state.specs.States.{view_registry, well_registry}
@@ -26,13 +27,6 @@ module _ (gs : List RegistryState) where
   abbrev held : List Held
   held = map held_of gs
 
-  -- the test of the sizes, by the slice's length and the count
-  abbrev sized : ℕ → ℕ → Bool
-  sized len n = eqb len 16 && leb n 16
-
-  as-held : (n : ℕ) (t : Bool) → sized (length gs) n ≡ t → sized (length held) n ≡ t
-  as-held n t e = ap (λ (m : ℕ). sized m n) (length-map gs held_of) ∙ e
-
   -- what the rules say
   abbrev answer : ℕ → Bool
   answer n = holds (registry_rules (length gs) n (map held_of (take n gs)))
@@ -48,11 +42,16 @@ module _ (gs : List RegistryState) where
   asked : (i : ℕ) → i < length gs → C.passes_at id_of eq_said no_held keeps_layout keeps_rules 16 said-test held i ≡ passes_at i
   unfolding find_registry
   asked i h =
-      rw (take-held i gs) (ap (λ (g : Held). (keeps_layout g && keeps_rules g) && leb i (place id_of eq_said no_held (id_of g) (map held_of (take i gs)))) (sym (read-there gs i h).0))
+      rw (take-held i gs) (ap (λ (g : Held). (keeps_layout g && keeps_rules g) && leb i (place id_of eq_said no_held (id_of g) (map held_of (take i gs)))) (sym (read-there gs i h)))
 
-  -- what a turn asks of its registry
-  pub asked_so : (i found : ℕ) → found ≡ find_registry gs i (get_or gs i blank).id → ((well_registry (get_or gs i blank) && sound_registry (view_registry (get_or gs i blank))) && leb i found) ≡ passes_at i
-  asked_so i found f = rw f
+  pub unsound : (i : ℕ) → (well_registry (get_or gs i blank) && sound_registry (view_registry (get_or gs i blank))) ≡ false → passes_at i ≡ false
+  unsound i e = rw e
+
+  pub repeated : (i : ℕ) → find_registry gs i (get_or gs i blank).id < i → passes_at i ≡ false
+  repeated i h = rw (lt-leb i _ h) (and-false (well_registry (get_or gs i blank) && sound_registry (view_registry (get_or gs i blank))))
+
+  pub passed : (i : ℕ) → (well_registry (get_or gs i blank) && sound_registry (view_registry (get_or gs i blank))) ≡ true → i ≤ find_registry gs i (get_or gs i blank).id → passes_at i ≡ true
+  passed i e h = rw e (le-leb i _ h)
 
   abbrev pub Kept : ℕ → Type 0
   Kept i = C.Kept id_of eq_said no_held keeps_layout keeps_rules 16 said-test held i
@@ -64,18 +63,18 @@ module _ (gs : List RegistryState) where
   at-good i h f p =
       rw add-one (C.at-good id_of eq_said no_held keeps_layout keeps_rules 16 said-test held i (omega (arith, length-map gs held_of)) f (asked i h ∙ p))
 
-  pub enough : (n : ℕ) → sized (length gs) n ≡ true → n ≤ length gs
-  enough n e =
-      let l = C.enough id_of eq_said no_held keeps_layout keeps_rules 16 said-test held n (as-held n true e) in
-      omega (arith, l, length-map gs held_of)
+  slots : length held ≡ length gs
+  slots = length-map gs held_of
 
-  pub wrong_size : (n : ℕ) → sized (length gs) n ≡ false → false ≡ answer n
-  wrong_size n e = C.wrong_size id_of eq_said no_held keeps_layout keeps_rules 16 said-test held n (as-held n false e) ∙ answered n
+  pub wrong_slots : (n : ℕ) → (length gs ≡ 16 → ⊥) → false ≡ answer n
+  wrong_slots n h = C.wrong_slots id_of eq_said no_held keeps_layout keeps_rules 16 said-test held n (λ e. h (sym slots ∙ e)) ∙ answered n
 
-  pub at-end : (n : ℕ) → sized (length gs) n ≡ true → Kept n → true ≡ answer n
-  at-end n e f = C.at-end id_of eq_said no_held keeps_layout keeps_rules 16 said-test held n (as-held n true e) f ∙ answered n
+  pub too_many : (n : ℕ) → 16 < n → false ≡ answer n
+  too_many n h = C.too_many id_of eq_said no_held keeps_layout keeps_rules 16 said-test held n h ∙ answered n
 
-  pub at-bad : (n i : ℕ) → sized (length gs) n ≡ true → i < n → passes_at i ≡ false → false ≡ answer n
-  at-bad n i e h p =
-      let l = enough n e in
-      C.at-bad id_of eq_said no_held keeps_layout keeps_rules 16 said-test held n i (as-held n true e) h (asked i (omega (arith, h, l)) ∙ p) ∙ answered n
+  pub at-end : (n : ℕ) → length gs ≡ 16 → n ≤ 16 → Kept n → true ≡ answer n
+  at-end n e u f = C.at-end id_of eq_said no_held keeps_layout keeps_rules 16 said-test held n (slots ∙ e) u f ∙ answered n
+
+  pub at-bad : (n i : ℕ) → length gs ≡ 16 → n ≤ 16 → i < n → passes_at i ≡ false → false ≡ answer n
+  at-bad n i e u h p =
+      C.at-bad id_of eq_said no_held keeps_layout keeps_rules 16 said-test held n i (slots ∙ e) u h (asked i (omega (arith, h, e, u)) ∙ p) ∙ answered n

@@ -7,7 +7,6 @@ ghost use Rattle.ledger_sections.specs.RegistrySections.{section_of, Stored};
 
 use codec_cursor::Cursor;
 use ledger_sections::registries::{read_next, section_count, write_head};
-use ledger_step::number::lesser;
 use registry_state::RegistryState;
 
 // The size with one registry more, which has at most 657 bytes.
@@ -59,7 +58,7 @@ pub fn write_registries(registries: &[RegistryState], count: usize, out: &mut [u
 pub fn store_registries(image: &[u8], count: usize, registries: &mut [RegistryState])
     ensures { Stored image.now count registries.old registries.new }
 {
-    let n = lesser(count, registries.len());
+    let n = count.min(registries.len());
     let mut c = Cursor { ok: true, at: 2 };
     let mut i = 0;
     while i < n {

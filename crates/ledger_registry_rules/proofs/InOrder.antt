@@ -1,14 +1,16 @@
 -- The reading rules of one registry, in the order in which the code asks them.
---     backer-fails, backer-once, backer-lettered   one backer: its letter, and whether it stands before
---     backers-pass         all of them
---     in_order             layout, limits and reading rules as one chain of tests
+--     has-any                 a search through the backers before one
+--     unlettered, repeats     one backer: its letter, and whether it stands before
+--     backers-pass            all of them
+--     in_order                layout, limits and reading rules as one chain of tests
 use Prim.Native.Nat.{ℕ, ◌<◌}
-use mathlib.Core.Path.{◌≡◌, refl, sym, ◌∙◌}
+use mathlib.Core.Path.{◌≡◌, refl, sym, ap, ◌∙◌}
 use mathlib.Core.Bool.{Bool, true, false, not, ◌&&◌, ◌||◌, and-false, false≢true}
-use mathlib.Core.List.{List}
+use mathlib.Core.List.{List, [], ◌∷◌}
 use lib.Dec.{eqb, leb}
 use lib.ListN.{length, take}
-use Rattle.cesr.specs.Primitives.{is_basic, is_said}
+use Rattle.std.specs.List.{list_any}
+use Rattle.cesr.specs.Primitives.{is_basic, is_said, eq_prefix}
 use Rattle.cesr.specs.declared.BasicPrefix.{BasicPrefix}
 use Rattle.events.specs.Members.{view, no_prefix, at, has, check_members}
 use Rattle.events.specs.declared.Membership.{Membership}
@@ -32,23 +34,23 @@ repeated l i b h = go (check_members l) refl
     go Sound e = absurd (false≢true (sym (sound-distinct l e i b) ∙ h))
     go (Broken r j) e = refl
 
--- a backer that stands before its place too, or whose letter is none, fails the list; another passes both rules
-module _ (l : List BasicPrefix) (i : ℕ) (b : i < length l) where
-  pub backer-fails : (found letter : Bool) → has (at l i) (take i l) ≡ found → is_backer (at l i) ≡ letter → (found || not letter) ≡ true → false ≡ (all is_backer l && accepts (backer_set (check_members l)))
-  backer-fails true letter e h z = rw (repeated l i b e) (sym (and-false (all is_backer l)))
-  backer-fails false true e h z = absurd (false≢true z)
-  backer-fails false false e h z = rw (all-fail is_backer no_prefix l i b h)
+pub has-any : (x : BasicPrefix) (l : List BasicPrefix) → list_any (λ y. eq_prefix y x) l ≡ has x l
+unfolding has
+has-any x [] = refl
+has-any x (y ∷ l) = ap (λ (t : Bool). eq_prefix y x || t) (has-any x l)
 
-  pub backer-once : (found letter : Bool) → has (at l i) (take i l) ≡ found → (found || not letter) ≡ false → has (at l i) (take i l) ≡ false
-  backer-once true letter e z = absurd (false≢true (sym z))
-  backer-once false letter e z = e
+-- what both rules say of a list
+abbrev sound : List BasicPrefix → Bool
+sound l = all is_backer l && accepts (backer_set (check_members l))
 
-  pub backer-lettered : (found letter : Bool) → is_backer (at l i) ≡ letter → (found || not letter) ≡ false → is_backer (at l i) ≡ true
-  backer-lettered found true h z = h
-  backer-lettered true false h z = absurd (false≢true (sym z))
-  backer-lettered false false h z = absurd (false≢true (sym z))
+-- a backer whose letter is none fails the list, and so does one that stands before its place too
+pub unlettered : (l : List BasicPrefix) (i : ℕ) → i < length l → is_backer (at l i) ≡ false → false ≡ sound l
+unlettered l i b h = rw (all-fail is_backer no_prefix l i b h)
 
-pub backers-pass : (l : List BasicPrefix) → ((i : ℕ) → i < length l → is_backer (at l i) ≡ true) → ((i : ℕ) → i < length l → has (at l i) (take i l) ≡ false) → true ≡ (all is_backer l && accepts (backer_set (check_members l)))
+pub repeats : (l : List BasicPrefix) (i : ℕ) → i < length l → has (at l i) (take i l) ≡ true → false ≡ sound l
+repeats l i b h = rw (repeated l i b h) (sym (and-false (all is_backer l)))
+
+pub backers-pass : (l : List BasicPrefix) → ((i : ℕ) → i < length l → is_backer (at l i) ≡ true) → ((i : ℕ) → i < length l → has (at l i) (take i l) ≡ false) → true ≡ sound l
 backers-pass l h k = rw (all_pass is_backer no_prefix l h, distinct-sound l k)
 
 in-order-by : (a b c d e f k m x y : Bool) → (a && (b && (c && (d && (e && (f && ((k && m) && (x && y)))))))) ≡ ((a && (b && (c && (d && (e && (f && k)))))) && (m && (x && y)))

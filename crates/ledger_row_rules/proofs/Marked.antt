@@ -22,7 +22,7 @@ use Rattle.ledger_step.specs.Pairs.{Pair, key_of}
 use Rattle.ledger_step.specs.Ledgers.{eq_pair}
 use Rattle.ledger_step.specs.Tables.{place}
 use Rattle.ledger_step.proofs.Rules.{pair-test}
-use Rattle.ledger_row_rules.specs.Marking.{word_of, bit_of, no_marks, marking}
+use Rattle.ledger_row_rules.specs.Marking.{word_of, bit_of, no_marks, marking, to_search}
 use Rattle.ledger_row_rules.specs.declared.marks.Marks.{Marks}
 
 -- the row at a place, and the place where a search for a key ends among the first n rows
@@ -82,16 +82,16 @@ Met m c = bit_and (get_or m.seen (word_of c) 0) (bit_of c) ≡ bit_of c
 within : (c : Said) → word_of c < 16
 within c = omega arith
 
-marks-itself : (m : Marks) (c : Said) (i : ℕ) → length m.seen ≡ 16 → Met (marking m c i) c
+marks-itself : (m : Marks) (c : Said) → length m.seen ≡ 16 → Met (marking m c) c
 unfolding marking
-marks-itself m c i e =
+marks-itself m c e =
     let word = get_or m.seen (word_of c) 0 in
     let l : word_of c < length m.seen = subst (λ (x : ℕ). word_of c < x) (sym e) (within c) in
     ap (λ (x : ℕ). bit_and x (bit_of c)) (get_or-set_same m.seen (word_of c) (bit_or word (bit_of c)) 0 l) ∙ or-has word (bit_of c)
 
-marks-more : (m : Marks) (c d : Said) (i : ℕ) → length m.seen ≡ 16 → Met m d → Met (marking m c i) d
+marks-more : (m : Marks) (c d : Said) → length m.seen ≡ 16 → Met m d → Met (marking m c) d
 unfolding marking
-marks-more m c d i e h = go (eqb (word_of d) (word_of c)) refl
+marks-more m c d e h = go (eqb (word_of d) (word_of c)) refl
   where
     go : (t : Bool) → eqb (word_of d) (word_of c) ≡ t → bit_and (get_or (set m.seen (word_of c) (bit_or (get_or m.seen (word_of c) 0) (bit_of c))) (word_of d) 0) (bit_of d) ≡ bit_of d
     go true q =
@@ -106,7 +106,7 @@ marks-more m c d i e h = go (eqb (word_of d) (word_of c)) refl
 module _ (l : List CredentialState) where
   abbrev pub marks_of : ℕ → Marks
   marks_of zero = no_marks
-  marks_of (suc i) = marking (marks_of i) (row_at l i).credential i
+  marks_of (suc i) = marking (marks_of i) (row_at l i).credential
 
   sixteen : (i : ℕ) → length (marks_of i).seen ≡ 16
   unfolding no_marks marking
@@ -117,9 +117,9 @@ module _ (l : List CredentialState) where
   all-met zero k b = absurd (omega arith)
   all-met (suc i) k b = go (λ u. all-met i k u) (eqb k i) refl
     where
-      go : (k < i → Met (marks_of i) (row_at l k).credential) → (t : Bool) → eqb k i ≡ t → Met (marking (marks_of i) (row_at l i).credential i) (row_at l k).credential
-      go h true e = subst (λ (x : ℕ). Met (marking (marks_of i) (row_at l i).credential i) (row_at l x).credential) (sym (eqb-true k i e)) (marks-itself (marks_of i) (row_at l i).credential i (sixteen i))
-      go h false e = marks-more (marks_of i) (row_at l i).credential (row_at l k).credential i (sixteen i) (h (omega (arith, eqb-false k i e)))
+      go : (k < i → Met (marks_of i) (row_at l k).credential) → (t : Bool) → eqb k i ≡ t → Met (marking (marks_of i) (row_at l i).credential) (row_at l k).credential
+      go h true e = subst (λ (x : ℕ). Met (marking (marks_of i) (row_at l i).credential) (row_at l x).credential) (sym (eqb-true k i e)) (marks-itself (marks_of i) (row_at l i).credential (sixteen i))
+      go h false e = marks-more (marks_of i) (row_at l i).credential (row_at l k).credential (sixteen i) (h (omega (arith, eqb-false k i e)))
 
   -- a credential whose bit is not set is in no row
   not_there : (i : ℕ) (r c : Said) → i ≤ length l → (Met (marks_of i) c → ⊥) → find_at l i r c ≡ i
@@ -144,6 +144,6 @@ module _ (l : List CredentialState) where
       let none : find_at l i r c ≡ i = not_there i r c b (eqb-false (bit_and (get_or (marks_of i).seen (word_of c) 0) (bit_of c)) (bit_of c) e) in
       leb-zero (find_at l 0 r c) ∙ sym (le-leb i (find_at l i r c) (omega (arith, none)))
 
-  pub same_test : (i : ℕ) → i ≤ length l → leb (marks_of (suc i)).searched (find_at l (marks_of (suc i)).searched (row_at l i).registry (row_at l i).credential) ≡ leb i (find_at l i (row_at l i).registry (row_at l i).credential)
-  unfolding marking
-  same_test i b = by_bit i (row_at l i).registry (row_at l i).credential b (is_met i (row_at l i).credential) refl
+  pub same_test : (i : ℕ) → i ≤ length l → (w : CredentialState) → w ≡ row_at l i → leb (to_search (marks_of i) w.credential i) (find_at l (to_search (marks_of i) w.credential i) w.registry w.credential) ≡ leb i (find_at l i w.registry w.credential)
+  unfolding to_search
+  same_test i b w e = by_bit i w.registry w.credential b (is_met i w.credential) refl

@@ -1,22 +1,19 @@
 // Credential rows behind a slice of states. These functions find a key, read a row and store a row; beside them only the check of all rows and the image reach into the slice.
-ghost use Rattle.std.specs.Prelude.{◌≡◌, length, set};
+ghost use Rattle.std.specs.Prelude.{◌≡◌, length, set, position};
 ghost use Rattle.ledger_rows.specs.Rows.{row_at, has_key, find_at};
 
 use cesr::Said;
-use ledger_step::number::lesser;
+use ledger_step::slices::in_use;
 use registry_state_credential::CredentialState;
 
 // The row at a place; past the end there is no credential.
 pub fn read_row(rows: &[CredentialState], at: usize) -> CredentialState
     ensures { result ≡ row_at rows.now at }
 {
-    if at < rows.len() {
-        return rows[at];
-    }
-    CredentialState::none()
+    rows.get(at).copied().unwrap_or(CredentialState::none())
 }
 
-// The row is stored at a place; past the end nothing is.
+// The row is stored at a place; past the end nothing is. With `get_mut` the proof does not close.
 pub fn store_row(rows: &mut [CredentialState], at: usize, w: CredentialState)
     ensures { rows.new ≡ set rows.old at w }
 {
@@ -26,27 +23,23 @@ pub fn store_row(rows: &mut [CredentialState], at: usize, w: CredentialState)
 }
 
 // Most rows differ from a key in the first word of the credential, so that is looked at first.
-fn has_key(w: CredentialState, registry: Said, credential: Said) -> bool
-    ensures { result ≡ has_key w registry credential }
+fn has_key(w: &CredentialState, registry: Said, credential: Said) -> bool
+    ensures { result ≡ has_key w.now registry credential }
 {
-    if w.credential.0.w0 != credential.0.w0 {
-        return false;
-    }
-    w.registry.same(registry) & w.credential.same(credential)
+    w.credential.0.w0 == credential.0.w0
+        && (w.registry.same(registry) & w.credential.same(credential))
 }
 
-// The first place among the first `count` rows whose row has the key. Where there is none it answers how many these rows are: the count, or the slice's length where that is less.
+fn position(rows: &[CredentialState], registry: Said, credential: Said) -> Option<usize>
+    ensures { result ≡ position (λ w. has_key w registry credential) rows.now }
+{
+    rows.iter().position(|w| has_key(w, registry, credential))
+}
+
+// The first place among the first `count` rows whose row has the key. Where there is none it answers how many these rows are: the count, or the slice's length where that is less. There a new row has its place.
 pub fn find_at(rows: &[CredentialState], count: usize, registry: Said, credential: Said) -> usize
     ensures { result ≡ find_at rows.now count registry credential }
 {
-    let n = lesser(count, rows.len());
-    let mut at = 0;
-    while at < n {
-        let row = rows[at];
-        if has_key(row, registry, credential) {
-            return at;
-        }
-        at += 1;
-    }
-    at
+    let used = in_use(rows, count);
+    position(used, registry, credential).unwrap_or(used.len())
 }

@@ -2,15 +2,15 @@
 --     Kept                                what holds where the loop has come to row i: those before it are sound
 --     answer                              what the rules say
 --     at-start, at-good, at-bad, at-end   it holds at the first row, a turn keeps it, and what the loop answers is what the rules say
---     marks-next                          the marks after a turn
---     asked_so                            what a turn asks of its row, by the rows that the marks leave to be searched
---     enough, wrong_size                  what the test of the sizes says
-use Prim.Native.Nat.{ℕ, suc, ◌+◌, ◌<◌, ◌≤◌}
-use mathlib.Core.Path.{◌≡◌, refl, ap, ◌∙◌}
-use mathlib.Core.Bool.{Bool, true, false, ◌&&◌}
+--     Turn, unsound, repeated, passed     what a turn learns of its row, by the rows that the marks leave to be searched
+--     wrong_slots, too_many               what it answers where the sizes are wrong
+use Prim.Native.Nat.{ℕ, ◌+◌, ◌<◌, ◌≤◌}
+use mathlib.Core.Path.{◌≡◌, refl, ◌∙◌}
+use mathlib.Core.Bool.{Bool, true, false, ◌&&◌, and-false}
 use mathlib.Core.List.{List}
 use native.Mathlib.Numerals.{add-one}
-use lib.Dec.{eqb, leb}
+use borrow.Author.Tests.{le-leb, lt-leb}
+use lib.Dec.{leb}
 use lib.ListN.{length, take}
 use Rattle.registry_state_credential.specs.CredentialStates.{no_credential, well_credential}
 use Rattle.registry_state_credential.specs.declared.CredentialState.{CredentialState}
@@ -19,15 +19,11 @@ use Rattle.ledger_rows.specs.Ledgers.{eq_pair, zero_or_one, holds, row_rules}
 use Rattle.ledger_rows.proofs.Rules.{pair-test}
 use Rattle.ledger_rows.proofs.TableChecks as C
 use Rattle.ledger_rows.specs.Rows.{row_at, find_at}
-use Rattle.ledger_row_rules.specs.Marking.{marking}
+use Rattle.ledger_row_rules.specs.Marking.{to_search}
 use Rattle.ledger_row_rules.specs.declared.marks.Marks.{Marks}
 use Rattle.ledger_row_rules.proofs.Marked.{marks_of, same_test}
 
 module _ (l : List CredentialState) where
-  -- the test of the sizes, by the slice's length and the count
-  abbrev sized : ℕ → Bool
-  sized n = eqb (length l) 256 && leb n 256
-
   -- what is asked of row i after those before it
   abbrev pub passes_at : ℕ → Bool
   passes_at i = (well_credential (row_at l i) && zero_or_one (row_at l i)) && leb i (find_at l i (row_at l i).registry (row_at l i).credential)
@@ -36,20 +32,30 @@ module _ (l : List CredentialState) where
   unfolding find_at
   asked i = refl
 
-  -- a search among the rows that the marks leave to be searched says the same
-  passes_same : (i : ℕ) → i ≤ length l → ((well_credential (row_at l i) && zero_or_one (row_at l i)) && leb (marks_of l (suc i)).searched (find_at l (marks_of l (suc i)).searched (row_at l i).registry (row_at l i).credential)) ≡ passes_at i
-  unfolding find_at
-  passes_same i b = ap (λ (t : Bool). (well_credential (row_at l i) && zero_or_one (row_at l i)) && t) (same_test l i b)
+  abbrev row_sound : ℕ → Bool
+  row_sound i = well_credential (row_at l i) && zero_or_one (row_at l i)
 
-  -- the marks after a turn
-  pub marks-next : (i : ℕ) (before after : Marks) → before ≡ marks_of l i → after ≡ marking before (row_at l i).credential i → after ≡ marks_of l (i + 1)
-  marks-next i before after b m = rw (add-one, ← b) m
+  pub unsound : (i : ℕ) → row_sound i ≡ false → passes_at i ≡ false
+  unsound i e = rw e
 
-  -- what a turn asks of its row
-  pub asked_so : (i found : ℕ) (after : Marks) → i ≤ length l → after ≡ marks_of l (i + 1) → found ≡ find_at l after.searched (row_at l i).registry (row_at l i).credential → ((well_credential (row_at l i) && zero_or_one (row_at l i)) && leb after.searched found) ≡ passes_at i
-  asked_so i found after h m f =
-      let n : after ≡ marks_of l (suc i) = rw add-one at m in
-      rw (f, n) (passes_same i h)
+  -- what a turn knows: the marks of the rows before, how many of these were searched, and where the search ended
+  pub record Turn (i : ℕ) (marks : Marks) (searched found : ℕ) : Type 0 where
+    pub before : i ≤ length l
+    pub marked : marks ≡ marks_of l i
+    pub left : searched ≡ to_search marks (row_at l i).credential i
+    pub ended : found ≡ find_at l searched (row_at l i).registry (row_at l i).credential
+
+  module _ (i : ℕ) (marks : Marks) (searched found : ℕ) (t : Turn i marks searched found) where
+    -- a search among the rows that the marks leave to be searched says the same
+    same : leb searched found ≡ leb i (find_at l i (row_at l i).registry (row_at l i).credential)
+    unfolding find_at
+    same = rw (t.ended, t.left, t.marked) (same_test l i t.before (row_at l i) refl)
+
+    pub repeated : found < searched → passes_at i ≡ false
+    repeated h = rw (← same, lt-leb searched found h) (and-false (row_sound i))
+
+    pub passed : row_sound i ≡ true → searched ≤ found → passes_at i ≡ true
+    passed e h = rw (e, ← same) (le-leb searched found h)
 
   abbrev pub Kept : ℕ → Type 0
   Kept i = C.Kept key_of eq_pair no_credential well_credential zero_or_one 256 pair-test l i
@@ -63,14 +69,14 @@ module _ (l : List CredentialState) where
   pub at-good : (i : ℕ) → i < length l → Kept i → passes_at i ≡ true → Kept (i + 1)
   at-good i h f p = rw add-one (C.at-good key_of eq_pair no_credential well_credential zero_or_one 256 pair-test l i h f (asked i ∙ p))
 
-  pub enough : (n : ℕ) → sized n ≡ true → n ≤ length l
-  enough n e = C.enough key_of eq_pair no_credential well_credential zero_or_one 256 pair-test l n e
+  pub wrong_slots : (n : ℕ) → (length l ≡ 256 → ⊥) → false ≡ answer n
+  wrong_slots n h = C.wrong_slots key_of eq_pair no_credential well_credential zero_or_one 256 pair-test l n h
 
-  pub wrong_size : (n : ℕ) → sized n ≡ false → false ≡ answer n
-  wrong_size n e = C.wrong_size key_of eq_pair no_credential well_credential zero_or_one 256 pair-test l n e
+  pub too_many : (n : ℕ) → 256 < n → false ≡ answer n
+  too_many n h = C.too_many key_of eq_pair no_credential well_credential zero_or_one 256 pair-test l n h
 
-  pub at-end : (n : ℕ) → sized n ≡ true → Kept n → true ≡ answer n
-  at-end n e f = C.at-end key_of eq_pair no_credential well_credential zero_or_one 256 pair-test l n e f
+  pub at-end : (n : ℕ) → length l ≡ 256 → n ≤ 256 → Kept n → true ≡ answer n
+  at-end n e u f = C.at-end key_of eq_pair no_credential well_credential zero_or_one 256 pair-test l n e u f
 
-  pub at-bad : (n i : ℕ) → sized n ≡ true → i < n → passes_at i ≡ false → false ≡ answer n
-  at-bad n i e h p = C.at-bad key_of eq_pair no_credential well_credential zero_or_one 256 pair-test l n i e h (asked i ∙ p)
+  pub at-bad : (n i : ℕ) → length l ≡ 256 → n ≤ 256 → i < n → passes_at i ≡ false → false ≡ answer n
+  at-bad n i e u h p = C.at-bad key_of eq_pair no_credential well_credential zero_or_one 256 pair-test l n i e u h (asked i ∙ p)

@@ -8,14 +8,13 @@ ghost use Rattle.ledger_sections.specs.RegistrySections.{held_read};
 
 use codec_cursor::{Cursor, Read};
 use ledger_image::image::write_count;
-use ledger_step::number::lesser;
 use registry_state::RegistryState;
 
 // How many registries the section has: the count, but no more than 16 and than the slice has.
 pub fn section_count(count: usize, len: usize) -> usize
     ensures { result ≡ min (min count 16) len }
 {
-    lesser(lesser(count, 16), len)
+    count.min(16).min(len)
 }
 
 // The section's count, where the buffer has room for the whole section. It answers how many registries have to follow: none where there is no room.

@@ -4,6 +4,7 @@ pub mod Changes
 pub mod Lacking
 pub mod Locality
 pub mod NewStates
+pub mod OneMore
 pub mod PlaceLaws
 pub mod PlaceSteps
 pub mod Places

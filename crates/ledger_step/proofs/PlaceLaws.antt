@@ -1,5 +1,5 @@
 -- Laws of places: what `find`, `put` and `distinct` of tables say of the place at which a key is first found.
---     place-cons                  the place, from the head of the list
+--     place-nil, place-cons       the place, from the head of the list
 --     find-place, put-place       finding and replacing, by place
 --     has-place                   whether a key is there, by place
 --     places-apart, not-apart     keys are distinct where each element stands at the place of its key, and there alone
@@ -57,7 +57,7 @@ found-cond true x = refl
 found-cond false x = refl
 
 module _ {X K : Type 0} (key : X → K) (eq : K → K → Bool) (blank : X) where
-  place-nil : (k : K) → place key eq blank k [] ≡ 0
+  pub place-nil : (k : K) → place key eq blank k [] ≡ 0
   unfolding place
   place-nil k = first-zero (λ i. eq (key (get_or [] i blank)) k)
 

@@ -3,18 +3,17 @@
 --     kept                                the rules, once the sizes are right
 --     Kept                                what holds where the loop has come to element i: those before it keep to them
 --     at-start, at-good, at-bad, at-end   it holds at the first element, a turn keeps it, and what the loop answers is what the rules say
---     enough, wrong_size                  what the test of the sizes says
+--     wrong_slots, too_many               what it answers where the sizes are wrong
 use Prim.Native.Nat.{ℕ, zero, suc, ◌<◌, ◌≤◌}
 use mathlib.Core.Path.{◌≡◌, refl, sym, ap, ◌∙◌}
-use mathlib.Core.Bool.{Bool, true, false, ◌&&◌}
+use mathlib.Core.Bool.{Bool, true, false, ◌&&◌, and-false}
 use mathlib.Core.List.{List, [], ◌∷◌, map}
 use native.Mathlib.Omega.{arith}
 use native.Mathlib.Decide.{dec_lt}
-use borrow.Author.Tests.{leb-true, eqb-true}
+use borrow.Author.Tests.{eq-eqb, ne_eqb, le-leb, lt-leb}
 use lib.Dec.{eqb, leb}
 use lib.ListN.{length, get_or, take}
 use lib.Seq.{take-suc}
-use Rattle.laws.proofs.Tests.{and_left, and_right}
 use Rattle.codec.specs.Layout.{all}
 use Rattle.codec_laws.proofs.CodesList.{all_snoc}
 use Rattle.ledger_step.specs.Tables.{distinct, place}
@@ -88,28 +87,21 @@ module _ {X K : Type 0} (key : X → K) (eq : K → K → Bool) (blank : X) (p q
         ]
 
     -- ---- what the function answers
-    sized : (n : ℕ) → (eqb (length l) size && leb n size) ≡ true → holds (checks (length l) n (take n l)) ≡ kept (take n l)
+    sized : (n : ℕ) → length l ≡ size → n ≤ size → holds (checks (length l) n (take n l)) ≡ kept (take n l)
     unfolding holds kept
-    sized n e = rw (and_left (eqb (length l) size) (leb n size) e, and_right (eqb (length l) size) (leb n size) e)
+    sized n e u = rw (eq-eqb (length l) size e, le-leb n size u)
 
-    pub enough : (n : ℕ) → (eqb (length l) size && leb n size) ≡ true → n ≤ length l
-    enough n e =
-        let a = eqb-true (length l) size (and_left (eqb (length l) size) (leb n size) e) in
-        let c = leb-true n size (and_right (eqb (length l) size) (leb n size) e) in
-        omega (arith, a, c)
-
-    pub wrong_size : (n : ℕ) → (eqb (length l) size && leb n size) ≡ false → false ≡ holds (checks (length l) n (take n l))
+    pub wrong_slots : (n : ℕ) → (length l ≡ size → ⊥) → false ≡ holds (checks (length l) n (take n l))
     unfolding holds
-    wrong_size n e = go (eqb (length l) size) (leb n size) (all p (take n l) && (distinct eq (map key (take n l)) && (all q (take n l) && true))) e
-      where
-        go : (a b c : Bool) → (a && b) ≡ false → false ≡ (a && (b && c))
-        go false b c h = refl
-        go true b c h = sym (left-no c h)
+    wrong_slots n h = rw (ne_eqb (length l) size h)
 
-    pub at-end : (n : ℕ) → (eqb (length l) size && leb n size) ≡ true → Kept n → true ≡ holds (checks (length l) n (take n l))
-    at-end n e f = sym (sized n e ∙ f)
+    pub too_many : (n : ℕ) → size < n → false ≡ holds (checks (length l) n (take n l))
+    unfolding holds
+    too_many n h = rw (lt-leb n size h) (sym (and-false (eqb (length l) size)))
 
-    pub at-bad : (n i : ℕ) → (eqb (length l) size && leb n size) ≡ true → i < n → passes_at i ≡ false → false ≡ holds (checks (length l) n (take n l))
-    at-bad n i e h b =
-        let m = enough n e in
-        sym (sized n e ∙ fails-later (suc i) n (omega arith) m (kept_step i (omega (arith, m)) ∙ right-no (kept (take i l)) b))
+    pub at-end : (n : ℕ) → length l ≡ size → n ≤ size → Kept n → true ≡ holds (checks (length l) n (take n l))
+    at-end n e u f = sym (sized n e u ∙ f)
+
+    pub at-bad : (n i : ℕ) → length l ≡ size → n ≤ size → i < n → passes_at i ≡ false → false ≡ holds (checks (length l) n (take n l))
+    at-bad n i e u h b =
+        sym (sized n e u ∙ fails-later (suc i) n (omega arith) (omega arith) (kept_step i (omega arith) ∙ right-no (kept (take i l)) b))

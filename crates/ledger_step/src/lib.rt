@@ -2,4 +2,4 @@
 // is what the functions over lent slices share.
 #![tactic(auto)]
 
-pub mod number;
+pub mod slices;

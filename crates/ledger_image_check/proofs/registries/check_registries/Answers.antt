@@ -31,7 +31,7 @@ loop-i-preserved c =
     let g = c.read-g in
     let room : length (view_ids l.ids) < 16 = omega (arith, few, l.invariant.1.size) in (
       omega (arith, c.loop-i-test.true),
-      turn _ _ _ _ _ _ l.invariant.1 g.result.value g.result.next g.ensures.read g.ensures.well _ _ c.contains-known.ensures c.registry_sound.ensures _ (c.push-ids.ensures ∙ pushed_room _ _ room),
+      turn _ _ _ _ _ _ l.invariant.1 g.result.value g.result.next g.ensures.read g.ensures.well _ _ c.contains-known.ensures c.registry_sound.ensures _ (c.push.ensures ∙ pushed_room _ _ room),
     )
 
 pub returns : goal.returns

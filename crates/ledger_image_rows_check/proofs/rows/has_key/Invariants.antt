@@ -1,4 +1,3 @@
-use Prim.Native.Nat.{◌≤◌, ◌-◌}
 use mathlib.Core.Path.{◌≡◌}
 use Rattle.ledger_image_ids.specs.Pairs.{key_of}
 use Rattle.ledger_image_ids.specs.Tables.{has}
@@ -7,7 +6,4 @@ use Rattle.ledger_image_rows_check.specs.RowTests.{keys_from}
 use Rattle.ledger_image_rows_check.proofs.rows.has_key.Given as goal
 
 abbrev pub invariant-loop-i : goal.invariant-loop-i
-invariant-loop-i l = (l.i ≤ l.n) × (l.found ≡ has eq_pair (key_of l.w) (keys_from l.s l.at l.i))
-
-abbrev pub decreases-loop-i : goal.decreases-loop-i
-decreases-loop-i l = l.n - l.i
+invariant-loop-i l = l.found ≡ has eq_pair (key_of l.w) (keys_from l.s l.at l.i)

@@ -1,16 +1,12 @@
-use Rattle.std.proofs.Common.{◌≡◌, ◌∙◌, sym, arith}
-use Rattle.ledger_registries.proofs.Find.{size, at-hit, at-end}
+use Rattle.std.proofs.Common.{take, refl, ◌∙◌}
+use Rattle.cesr.specs.Primitives.{eq_said}
+use Rattle.ledger_step.specs.Ledgers.{held_of, id_of}
+use Rattle.ledger_step.proofs.PlaceSteps.{searched}
+use Rattle.ledger_registries.specs.Registries.{no_held, find_registry}
 use Rattle.ledger_registries.proofs.registries.find_registry.Goals as goal
 
-pub returns-then-same : goal.returns-then-same
-returns-then-same c =
-    let a = c.args in
-    let l = c.loop-at in
-    at-hit a.registries.now a.count a.id l.at (omega (arith, c.lesser-n.ensures, c.loop-at-test.true)) l.invariant.1 (sym c.same.ensures ∙ c.if-same.true)
-
 pub returns : goal.returns
+unfolding find_registry
 returns c =
     let a = c.args in
-    let l = c.loop-at in
-    let all : l.at ≡ size a.registries.now a.count a.id = omega (arith, c.lesser-n.ensures, c.loop-at-test.false, l.invariant.0) in
-    all ∙ at-end a.registries.now a.count a.id (λ i h. l.invariant.1 i (omega (arith, all, h)))
+    c.unwrap_or.ensures ∙ rw (c.position.ensures, c.in_use-used.ensures) (searched id_of eq_said no_held held_of a.id (take a.count a.registries.now) _ refl)

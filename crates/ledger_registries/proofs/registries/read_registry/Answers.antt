@@ -1,5 +1,8 @@
+use mathlib.Core.Path.{sym}
+use borrow.Author.Tests.{ltb-false}
 use Rattle.ledger_registries.proofs.RegistryViews.{read_past}
 use Rattle.ledger_registries.proofs.registries.read_registry.Goals as goal
 
-pub returns-clause-held : goal.returns-clause-held
-returns-clause-held c = (read_past c.args.registries.now c.args.at c.none.result c.if-at-registries.false c.none.ensures).0
+pub returns-in-None-clause-held : goal.returns-in-None-clause-held
+returns-in-None-clause-held c =
+    read_past _ _ _ (ltb-false _ _ (sym c.in-None.ensures.lookup.0)) c.none.ensures

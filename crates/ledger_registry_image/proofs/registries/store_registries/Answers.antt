@@ -14,7 +14,7 @@ loop-i-preserved c =
     let ys = c.args.registries.now in
     let l = c.loop-i in
     let r = c.read_next-r.ensures in
-    let there : l.i < length ys = omega (arith, c.lesser-n.ensures) in
+    let there : l.i < length ys = omega (arith, c.min-n.ensures) in
     record {
       in_range = omega arith;
       behind = rw add-one (r.1 ∙ ap (λ (d : Cursor). (read_registry bs d).next) l.invariant.behind ∙ after_more bs l.i);

@@ -12,6 +12,6 @@ returns c =
       c.is_exact-threshold.ensures,
       c.is_said.ensures,
       c.is_basic.ensures,
-      c.size-n.ensures.value,
+      c.listed-backers.ensures,
     )
-    (in_order c.args.g)
+    (in_order c.args.g.now)

@@ -1,13 +1,20 @@
--- Tests of a list with one element more behind it.
+-- Tests of a list, and of one with one element more behind it.
+--     has-any          whether a key is in it, as a search through it says
 --     has-snoc         whether a key is in it
 --     distinct_snoc    whether no two of it are equal
 use mathlib.Core.Path.{◌≡◌, refl, sym, ap, ◌∙◌}
 use mathlib.Core.Bool.{Bool, true, false, not, ◌&&◌, ◌||◌, or-false, or_assoc, and-false, true≢false}
 use mathlib.Core.List.{List, [], ◌∷◌, ◌++◌}
+use Rattle.std.specs.List.{list_any}
 use Rattle.ledger_step.specs.Tables.{has, distinct}
 use Rattle.ledger_step.proofs.TableLaws.{Tests}
 
 module _ {K : Type 0} (eq : K → K → Bool) where
+  pub has-any : (k : K) (l : List K) → list_any (λ a. eq a k) l ≡ has eq k l
+  unfolding has
+  has-any k [] = refl
+  has-any k (a ∷ l) = ap (λ (t : Bool). eq a k || t) (has-any k l)
+
   pub has-snoc : (k a : K) (l : List K) → has eq k (l ++ (a ∷ [])) ≡ (has eq k l || eq a k)
   unfolding has
   has-snoc k a [] = or-false (eq a k)
