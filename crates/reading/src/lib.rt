@@ -1,7 +1,7 @@
 //! Reads as much as there is room for, from an input that may come in pieces.
 #![tactic(auto)]
 
-ghost use Rattle.std.specs.Prelude.{◌≡◌, ◌≤◌, ℕ, take, length, IfOk, OnErr};
+ghost use Rattle.std.specs.Prelude.{◌≡◌, ◌≤◌, ℕ, min, take, length, IfOk, OnErr};
 ghost use Rattle.std.specs.Io.KnownBytes.{Consumes};
 ghost use Rattle.reading.specs.Fronts.{Takes};
 
@@ -25,6 +25,25 @@ pub fn read_full<R: Read>(reader: &mut R, buf: &mut [u8]) -> io::Result<usize>
         done += n;
     }
     Ok(done)
+}
+
+/// Reads n bytes, or as many as the buffer has room for, and returns those that came: fewer only where the input ends.
+pub fn read_part<'a, R: Read>(reader: &mut R, buf: &'a mut [u8], n: usize) -> io::Result<&'a [u8]>
+    ensures bound { IfOk result (λ part. length part.now ≤ min n (length buf.old)) }
+    ensures front { IfOk result (λ part. Takes (R.remaining reader.old) (R.remaining reader.new) (min n (length buf.old)) (λ front. part.now ≡ front)) }
+{
+    let room = n.min(buf.len());
+    let came = read_full(reader, &mut buf[..room])?;
+    Ok(&buf[..came])
+}
+
+/// What an input of records has next.
+#[derive(Clone, Copy)]
+pub enum Next<T> {
+    Record(T),
+    End,
+    /// The input ends inside a record, or a record is longer than any that there is room for.
+    Broken,
 }
 
 #[cfg(test)]
