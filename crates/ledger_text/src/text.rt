@@ -26,11 +26,9 @@ fn put_decimal(out: &mut [u8], at: usize, k: usize, n: u64)
     requires k_in_bounds { at + k ≤ length out.old }
     ensures { out.new ≡ sets out.old at (decimal n) }
 {
-    let mut i = k;
     let mut rest = n;
-    while 0 < i {
-        i -= 1;
-        out[at + i] = 48 + (rest % 10) as u8;
+    for i in (0..k).rev() {
+        out[at + i] = b'0' + (rest % 10) as u8;
         rest /= 10;
     }
 }

@@ -17,6 +17,7 @@ pub fn read_full<R: Read>(reader: &mut R, buf: &mut [u8]) -> io::Result<usize>
     ensures err { OnErr result ((n : ℕ) × Consumes (R.remaining reader.old) (R.remaining reader.new) (take n buf.new)) }
 {
     let mut done = 0;
+    // How far a turn goes is up to the reader, so no `for` over the buffer fits.
     while done < buf.len() {
         let n = reader.read(&mut buf[done..])?;
         if n == 0 {
@@ -88,6 +89,22 @@ mod tests {
         assert_eq!(rt; read_full(&mut reader, &mut buf)?, 2);
         assert_eq!(rt; buf, *b"efcd");
         assert_eq!(rt; read_full(&mut reader, &mut buf)?, 0);
+        Ok(())
+    }
+
+    #[test]
+    fn stops_at_a_part_or_at_the_end(rt: HostRuntime) -> Result<(), Fail> {
+        let mut reader = Pieces {
+            left: b"abcdefg",
+            fails: false,
+        };
+        let mut buf = [b'.'; 4];
+        assert_eq!(rt; read_part(&mut reader, &mut buf, 2)?.len(), 2);
+        assert_eq!(rt; buf, *b"ab..");
+        assert_eq!(rt; read_part(&mut reader, &mut buf, 9)?.len(), 4);
+        assert_eq!(rt; buf, *b"cdef");
+        assert_eq!(rt; read_part(&mut reader, &mut buf, 3)?.len(), 1);
+        assert_eq!(rt; buf, *b"gdef");
         Ok(())
     }
 
