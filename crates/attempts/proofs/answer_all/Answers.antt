@@ -23,7 +23,8 @@ loop-buffer-smaller g c =
 pub loop-buffer-preserved : goal.loop-buffer-preserved
 loop-buffer-preserved g c =
     let room = c.loop-buffer.invariant.room in
-    let all : min (unwrap_or c.in_ok-length.length 0) (length c.loop-buffer.buffer) ≡ unwrap_or c.in_ok-length.length 0 = omega (arith, c.in_ok-length.ensures.upper_bound) in
+    let all : min c.unwrap_or.result (length c.loop-buffer.buffer) ≡ unwrap_or c.in_ok-length.length 0 =
+    omega (arith, c.unwrap_or.ensures, c.in_ok-length.ensures.upper_bound) in
     record {
       room = search rules;
       going = IfSome_then _ c.loop-buffer.invariant.going (λ s t. goes-on answering _ _ _ _ _ _ _ _ _ _ _ c.in_ok-attempt.attempt.now c.in_ok-length.length t (sym c.wants.ensures ∙ c.loop-buffer-test.true) c.in_ok-length.ensures.value (rw all at c.in_ok-attempt.ensures.front) c.took-run.ensures c.in_ok-ledger.ensures.ledger c.in_ok-ledger.ensures.line);
