@@ -34,6 +34,7 @@ fn put_decimal(out: &mut [u8], at: usize, k: usize, n: u64)
 }
 
 // A decimal, and the byte behind it.
+#[tactic(auto, using(crate::proofs::LineLaws::number_put))]
 fn put_number(out: &mut [u8], at: usize, k: usize, n: u64, end: u8)
     requires k_value { k ≡ length (decimal n) }
     requires k_in_bounds { at + k < length out.old }
