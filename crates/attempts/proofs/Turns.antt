@@ -2,46 +2,31 @@
 --     starts     after the count was read, all that there is to print is still to come
 --     goes-on    a turn prints what it has to
 --     ends       behind the last turn stands the last line
-use Rattle.std.proofs.Common.{◌≡◌, ℕ, zero, suc, ◌+◌, ◌-◌, ◌≤◌, List, [], ◌++◌, Bool, true, false, cond, ◌&&◌, Some, length, take, drop, refl, sym, ap, ◌∙◌, arith, append_assoc, length-take-le}
+use Rattle.std.proofs.Common.{◌≡◌, ℕ, zero, suc, ◌+◌, ◌-◌, ◌≤◌, List, [], ◌++◌, Bool, true, false, cond, ◌&&◌, Some, None, length, take, drop, refl, arith, append_assoc}
 use Rattle.std.proofs.Math.Dec.{ltb, leb}
-use Rattle.std.proofs.lemmas.Bool.{ltb-true, leb-true}
+use Rattle.std.proofs.lemmas.Bool.{ltb-true}
 use Rattle.std.proofs.lemmas.List.{drop-drop}
 use Rattle.std.proofs.KnownBytes.{Appends-nil, Appends-trans}
 use Rattle.std.specs.Io.KnownBytes.{Appends}
 use Rattle.std.specs.declared.option.Option.{Option}
-use mathlib.Core.Bool.{true≢false}
 use Rattle.laws.specs.Number.{number_at}
 use Rattle.reading.specs.Fronts.{Takes}
 use Rattle.ledger_text.specs.Lines.{line_bytes, last_line, broken_line}
 use Rattle.ledger_frames.specs.declared.Run.{Run}
-use Rattle.ledger_frames.specs.declared.Size.{Size}
+use Rattle.std.specs.Option.{unwrap_or}
 use Rattle.ledger_frames.specs.Runs.{Outcome, size_of, start_of, took_of, finish_of, taking, turns_of, run_of}
 use Rattle.ledger_frames.specs.Printed.{Answering, taken_lines, after_taken, run_prints, printed_of}
 use Rattle.ledger_frames.proofs.RunLaws.{run-printed}
 
--- a body that was taken is there whole
-whole : (r : Run) (z : Size) (got : ℕ) → (took_of r z got).broken ≡ false → z.size ≤ got
-unfolding took_of
-whole r z got = go (ltb 0 r.left && z.ok) (leb z.size got) refl
-  where
-    go : (x y : Bool) → leb z.size got ≡ y → (cond {A = Run} (x && y) (record { count = r.count; left = r.left - 1; broken = r.broken }) (record { count = r.count; left = 0; broken = true })).broken ≡ false → z.size ≤ got
-    go true true e h = leb-true z.size got e
-    go true false e h = absurd (true≢false h)
-    go false y e h = absurd (true≢false h)
-
 -- a turn that is taken is one of those that are left
-fewer : (n : ℕ) (r : Run) (z : Size) (got : ℕ) → r.left ≤ suc n → (took_of r z got).left ≤ n
+fewer : (n : ℕ) (r : Run) (z : Option ℕ) (got : ℕ) → r.left ≤ suc n → (took_of r z got).left ≤ n
 unfolding took_of
-fewer n r z got h = go ((ltb 0 r.left && z.ok) && leb z.size got)
+fewer n r None got h = omega arith
+fewer n r (Some size) got h = go (ltb 0 r.left && leb size got)
   where
     go : (b : Bool) → (cond {A = Run} b (record { count = r.count; left = r.left - 1; broken = r.broken }) (record { count = r.count; left = 0; broken = true })).left ≤ n
     go true = omega arith
     go false = omega arith
-
--- what is told of a body holds of a buffer's part that is that body, where it counts
-alike : {X : Type 0} (b : Bool) (x : X) (f : List ℕ → X) (s t : List ℕ) → (b ≡ false → s ≡ t) → cond b x (f s) ≡ cond b x (f t)
-alike true x f s t e = refl
-alike false x f s t e = ap f (e refl)
 
 module _ {L : Type 0} (k : Answering L) where
   -- what a turn prints of an attempt, and the ledger behind it; q is the run behind it too
@@ -59,7 +44,7 @@ module _ {L : Type 0} (k : Answering L) where
       go true e = rw e
       go false e = rw (e, append_assoc)
 
-  turn-prints : (n : ℕ) (r : Run) (s : List ℕ) (l : L) → ltb 0 r.left ≡ true → run_prints k l (turns_of (suc n) r s) ≡ line_after (took_of r (size_of (take 2 s)) (length (take (size_of (take 2 s)).size (drop 2 s)))) l (take (size_of (take 2 s)).size (drop 2 s)) ++ run_prints k (held_after (took_of r (size_of (take 2 s)) (length (take (size_of (take 2 s)).size (drop 2 s)))) l (take (size_of (take 2 s)).size (drop 2 s))) (turns_of n (took_of r (size_of (take 2 s)) (length (take (size_of (take 2 s)).size (drop 2 s)))) (drop (2 + (size_of (take 2 s)).size) s))
+  turn-prints : (n : ℕ) (r : Run) (s : List ℕ) (l : L) → ltb 0 r.left ≡ true → run_prints k l (turns_of (suc n) r s) ≡ line_after (took_of r (size_of (take 2 s)) (length (take (unwrap_or (size_of (take 2 s)) 0) (drop 2 s)))) l (take (unwrap_or (size_of (take 2 s)) 0) (drop 2 s)) ++ run_prints k (held_after (took_of r (size_of (take 2 s)) (length (take (unwrap_or (size_of (take 2 s)) 0) (drop 2 s)))) l (take (unwrap_or (size_of (take 2 s)) 0) (drop 2 s))) (turns_of n (took_of r (size_of (take 2 s)) (length (take (unwrap_or (size_of (take 2 s)) 0) (drop 2 s)))) (drop (2 + unwrap_or (size_of (take 2 s)) 0) s))
   unfolding turns_of
   turn-prints n r s l h = rw h (prints-taking _ _ _ l)
 
@@ -87,26 +72,20 @@ module _ {L : Type 0} (k : Answering L) where
         whole_text = rw e (run-printed k (number_at s 0 2 + (start_of (take 2 s)).left) l s (omega arith));
       }
 
-  -- a turn, told of what it found
-  turns-on : (turns : ℕ) (rest text all : List ℕ) (r : Run) (l : L) (z : Size) (got : ℕ) (a : List ℕ) → text ++ run_prints k l (turns_of turns r rest) ≡ all → r.left ≤ turns → ltb 0 r.left ≡ true → z ≡ size_of (take 2 rest) → got ≡ length (take z.size (drop 2 rest)) → line_after (took_of r z got) l a ≡ line_after (took_of r z got) l (take z.size (drop 2 rest)) → held_after (took_of r z got) l a ≡ held_after (took_of r z got) l (take z.size (drop 2 rest)) → (n : ℕ) × ((took_of r z got).left ≤ n) × ((text ++ line_after (took_of r z got) l a) ++ run_prints k (held_after (took_of r z got) l a) (turns_of n (took_of r z got) (drop z.size (drop 2 rest))) ≡ all)
-  turns-on zero rest text all r l z got a e h w q g f d = absurd (omega (arith, ltb-true 0 r.left w))
-  turns-on (suc n) rest text all r l z got a e h w q g f d = (n, fewer n r z got h, rw (f, d, append_assoc, drop-drop, g, q) (rw (turn-prints n r rest l w) at e))
+  -- a turn, told of what it found; a is the attempt, or what there is of it
+  turns-on : (turns : ℕ) (rest text all : List ℕ) (r : Run) (l : L) (z : Option ℕ) (a : List ℕ) → text ++ run_prints k l (turns_of turns r rest) ≡ all → r.left ≤ turns → ltb 0 r.left ≡ true → z ≡ size_of (take 2 rest) → a ≡ take (unwrap_or z 0) (drop 2 rest) → (n : ℕ) × ((took_of r z (length a)).left ≤ n) × ((text ++ line_after (took_of r z (length a)) l a) ++ run_prints k (held_after (took_of r z (length a)) l a) (turns_of n (took_of r z (length a)) (drop (unwrap_or z 0) (drop 2 rest))) ≡ all)
+  turns-on zero rest text all r l z a e h w q f = absurd (omega (arith, ltb-true 0 r.left w))
+  turns-on (suc n) rest text all r l z a e h w q f = (n, fewer n r z (length a) h, rw (append_assoc, drop-drop, f, q) (rw (turn-prints n r rest l w) at e))
 
-  -- The length was read, then the body, then the attempt was answered; a is the body's part of a buffer.
-  pub goes-on : (ahead between behind before writer after : Option (List ℕ)) (r q : Run) (l m : L) (all buffer : List ℕ) (z : Size) (got : ℕ) → Going ahead before writer r l all → ltb 0 r.left ≡ true → Takes ahead between 2 (λ bytes. z ≡ size_of bytes) → Takes between behind z.size (λ bytes. take got buffer ≡ bytes) → got ≤ z.size → z.size ≤ length buffer → q ≡ took_of r z got → m ≡ held_after q l (take z.size buffer) → Appends writer after (line_after q l (take z.size buffer)) → Going behind before after q m all
-  goes-on ahead between behind before writer after r q l m all buffer z got g w t u h f qe me p =
+  -- The length was read, then the body, then the attempt was answered.
+  pub goes-on : (ahead between behind before writer after : Option (List ℕ)) (r q : Run) (l m : L) (all a : List ℕ) (z : Option ℕ) → Going ahead before writer r l all → ltb 0 r.left ≡ true → Takes ahead between 2 (λ bytes. z ≡ size_of bytes) → Takes between behind (unwrap_or z 0) (λ bytes. a ≡ bytes) → q ≡ took_of r z (length a) → m ≡ held_after q l a → Appends writer after (line_after q l a) → Going behind before after q m all
+  goes-on ahead between behind before writer after r q l m all a z g w t u qe me p =
       let t' = rw g.left at t in
       let u' = rw t'.1 at u in
-      let a = take z.size buffer in
-      let body = take z.size (drop 2 g.rest) in
-      let o = took_of r z got in
-      let arrived : got ≡ length body = sym (length-take-le got buffer (omega arith)) ∙ ap length u'.0 in
-      let same : o.broken ≡ false → a ≡ body = λ e. let n : got ≡ z.size = omega (arith, whole r z got e) in rw n at u'.0 in
-      let text : line_after o l a ≡ line_after o l body = alike o.broken [] (λ x. line_bytes (o.count - o.left) (k.number l x) (k.letter l x)) a body same in
-      let held : held_after o l a ≡ held_after o l body = alike o.broken l (λ x. k.next l x) a body same in
-      let next = turns-on g.turns g.rest g.text all r l z got a g.whole_text g.enough w t'.0 arrived text held in
+      let o = took_of r z (length a) in
+      let next = turns-on g.turns g.rest g.text all r l z a g.whole_text g.enough w t'.0 u'.0 in
       rw (me, qe) record {
-        rest = drop z.size (drop 2 g.rest);
+        rest = drop (unwrap_or z 0) (drop 2 g.rest);
         turns = next.0;
         text = g.text ++ line_after o l a;
         left = u'.1;

@@ -6,7 +6,7 @@
 
 mod line;
 
-ghost use Rattle.std.specs.Prelude.{◌≡◌, ◌-◌, ◌≤◌, [], cond, length, take, IfOk, IfSome, OnOk};
+ghost use Rattle.std.specs.Prelude.{◌≡◌, ◌-◌, ◌≤◌, [], cond, length, unwrap_or, IfOk, IfSome, OnOk};
 ghost use Rattle.std.specs.Io.KnownBytes.{Appends};
 ghost use Rattle.reading.specs.Fronts.{Takes};
 ghost use Rattle.ledger_table.specs.Tables.{view_ledger};
@@ -14,12 +14,12 @@ ghost use Rattle.ledger_text.specs.Lines.{last_line, broken_line};
 ghost use Rattle.ledger_frames.specs.Runs.{start_of, size_of};
 ghost use Rattle.attempts.specs.Answering.{next_of, line_of, output_of};
 
+use ledger_frames::Run;
 use ledger_frames::framing::read_size;
-use ledger_frames::{Run, Size};
 use ledger_table::Ledger;
 use ledger_text::text::write_last;
 use line::answer_attempt;
-use reading::read_full;
+use reading::{read_full, read_part};
 use std::io;
 use std::io::{Read, Write};
 
@@ -32,23 +32,14 @@ fn read_count<R: Read>(reader: &mut R) -> io::Result<Run>
     Ok(Run::start(&bytes[..n]))
 }
 
-// The length of the next attempt.
-fn read_length<R: Read>(reader: &mut R) -> io::Result<Size>
+// The length of the next attempt, or none where its bytes are not there.
+fn read_length<R: Read>(reader: &mut R) -> io::Result<Option<usize>>
     ensures value { IfOk result (λ length. Takes (R.remaining reader.old) (R.remaining reader.new) 2 (λ bytes. length ≡ size_of bytes)) }
-    ensures upper_bound { IfOk result (λ length. length.size ≤ 65535) }
+    ensures upper_bound { IfOk result (λ length. unwrap_or length 0 ≤ 65535) }
 {
     let mut bytes = [0u8; 2];
     let n = read_full(reader, &mut bytes)?;
     Ok(read_size(&bytes[..n]))
-}
-
-// How many of n bytes are there. They come to the start of the buffer.
-fn read_body<R: Read>(reader: &mut R, buffer: &mut [u8], n: usize) -> io::Result<usize>
-    requires { n ≤ length buffer.old }
-    ensures bytes { IfOk result (λ got. Takes (R.remaining reader.old) (R.remaining reader.new) n (λ bytes. take got buffer.new ≡ bytes)) }
-    ensures upper_bound { IfOk result (λ got. got ≤ n) }
-{
-    read_full(reader, &mut buffer[..n])
 }
 
 // How many bytes follow the last attempt, of which one is enough to tell.
@@ -96,14 +87,14 @@ fn print_last<W: Write>(
 fn answer_all<R: Read, W: Write>(reader: &mut R, writer: &mut W) -> io::Result<()>
     ensures { OnOk result (IfSome (R.remaining reader.old) (λ input. Appends (W.contents writer.old) (W.contents writer.new) (output_of input))) }
 {
-    let mut body = [0u8; 65536];
+    let mut buffer = [0u8; 65536];
     let mut ledger = Ledger::empty();
     let mut run = read_count(reader)?;
     while run.wants() {
         let length = read_length(reader)?;
-        let got = read_body(reader, &mut body, length.size)?;
-        run = run.took(length, got);
-        ledger = print_attempt(writer, ledger, run, &body[..length.size])?;
+        let attempt = read_part(reader, &mut buffer, length.unwrap_or(0))?;
+        run = run.took(length, attempt.len());
+        ledger = print_attempt(writer, ledger, run, attempt)?;
     }
     let end = run.finish(read_more(reader)?);
     print_last(writer, end.broken, ledger.registry_count, ledger.row_count)

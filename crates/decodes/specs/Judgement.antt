@@ -1,7 +1,7 @@
 -- What a record says of an attempt, and whether the decoder says the same.
 use Rattle.std.specs.Prelude.{ℕ, List, Bool, true, false, not, ◌&&◌, ◌||◌, eqb}
 use Rattle.registry_wire.specs.Attempts.{Decoded, malformed, decoded, decode_of}
-use Rattle.decodes.specs.declared.tally.Finding.{Finding}
+use Rattle.decodes.specs.declared.Finding.{Finding}
 
 abbrev pub well_formed : Decoded → Bool
 well_formed malformed = false

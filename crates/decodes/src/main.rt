@@ -2,78 +2,69 @@
 // expected. A record is a byte, 0 for well-formed or 1 for malformed, a byte for its group, two bytes for a length, and as many bytes.
 #![tactic(auto)]
 
-mod tally;
-
-ghost use Rattle.std.specs.Prelude.{◌≡◌, ◌+◌, ◌*◌, ◌≤◌, length};
+ghost use Rattle.std.specs.Prelude.{◌≡◌};
+ghost use Rattle.decodes.specs.Counting.{place_of};
 ghost use Rattle.decodes.specs.Judgement.{judge_of};
 
-use reading::read_full;
+use reading::{Next, read_full, read_part};
 use registry_wire::Attempt;
 use std::io;
 use std::io::Read;
-use tally::{Finding, Tally};
+use tally::{Count, Tally};
 
+// What is found of an attempt.
 #[derive(Clone, Copy)]
-enum Next {
-    Attempt { group: u8, finding: Finding },
-    End,
-    // The input ends inside a record.
-    Broken,
+struct Finding {
+    malformed: bool,
+    // Whether the record said so too.
+    agrees: bool,
 }
 
+// An attempt's group, and what is found of it.
 #[derive(Clone, Copy)]
-struct Outcome {
-    tally: Tally,
-    broken: bool,
+struct Judged {
+    group: u8,
+    finding: Finding,
 }
 
-// What two bytes of a length say.
-fn size(high: u8, low: u8) -> usize
-    ensures value { result ≡ high * 256 + low }
-    ensures upper_bound { result ≤ 65535 }
-{
-    high as usize * 256 + low as usize
-}
+// Of each group how many attempts there were, how many malformed, and how many as expected.
+type Groups = Tally<2, 7>;
 
 #[tactic(auto, unfolding(crate::specs::Judgement::judge_of))]
 fn judge(expected: u8, attempt: &[u8]) -> Finding
     ensures { result ≡ judge_of expected attempt.now }
 {
-    let d = Attempt::decode(attempt);
-    let ok = d.ok;
+    let ok = Attempt::decode(attempt).ok;
     Finding {
         malformed: !ok,
         agrees: (ok & (expected == 0)) | (!ok & (expected == 1)),
     }
 }
 
-// Whether n bytes are there. They come to the start of the buffer.
-fn read_body(reader: &mut impl Read, buffer: &mut [u8], n: usize) -> io::Result<bool>
-    requires { n ≤ length buffer.old }
+// The groups 1 to 6 are counted at their numbers, and any other at 0.
+fn place(group: u8) -> usize
+    ensures { result ≡ place_of group }
 {
-    Ok(read_full(reader, &mut buffer[..n])? == n)
+    if group <= 6 { usize::from(group) } else { 0 }
 }
 
-fn next_record(reader: &mut impl Read, buffer: &mut [u8]) -> io::Result<Next>
-    requires { 65535 ≤ length buffer.old }
-{
-    let mut first = [0u8; 4];
-    let n = read_full(reader, &mut first)?;
-    if n == 0 {
-        return Ok(Next::End);
+fn next_record(reader: &mut impl Read, buffer: &mut [u8]) -> io::Result<Next<Judged>> {
+    let mut head = [0u8; 4];
+    match read_full(reader, &mut head)? {
+        4 => {}
+        0 => return Ok(Next::End),
+        _ => return Ok(Next::Broken),
     }
-    if n < 4 {
+    let [expected, group, high, low] = head;
+    let length = usize::from(u16::from_be_bytes([high, low]));
+    let attempt = read_part(reader, buffer, length)?;
+    if attempt.len() < length {
         return Ok(Next::Broken);
     }
-    let length = size(first[2], first[3]);
-    if !read_body(reader, buffer, length)? {
-        return Ok(Next::Broken);
-    }
-    let finding = judge(first[0], &buffer[..length]);
-    Ok(Next::Attempt {
-        group: first[1],
-        finding,
-    })
+    Ok(Next::Record(Judged {
+        group,
+        finding: judge(expected, attempt),
+    }))
 }
 
 // A mark for each attempt, 64 in a line: M where it is malformed, else a dot.
@@ -86,47 +77,46 @@ fn print_mark(rt: &impl Print, malformed: bool, count: u64) -> io::Result<()> {
     Ok(())
 }
 
-// A loop has to end, and nothing says that the input does. So it has a number of turns that no run uses up.
-fn run(rt: &impl Print, reader: &mut impl Read) -> io::Result<Outcome> {
+// Whether the input ends behind a record. A loop has to end, and nothing says that the input does. So it has a number of turns that no
+// run uses up.
+fn run(rt: &impl Print, reader: &mut impl Read, groups: &mut Groups) -> io::Result<bool> {
     let mut buffer = [0u8; 65536];
-    let mut tally = Tally::empty();
     for _ in 0..u64::MAX {
         match next_record(reader, &mut buffer)? {
-            Next::Attempt { group, finding } => {
-                tally = tally.counted(group, finding);
-                print_mark(rt, finding.malformed, tally.total.attempts)?;
+            Next::Record(Judged { group, finding }) => {
+                groups.count(place(group), [finding.malformed, finding.agrees]);
+                print_mark(rt, finding.malformed, groups.total.all)?;
             }
-            Next::End => {
-                return Ok(Outcome {
-                    tally,
-                    broken: false,
-                });
-            }
-            Next::Broken => break,
+            Next::End => return Ok(true),
+            Next::Broken => return Ok(false),
         }
     }
-    Ok(Outcome {
-        tally,
-        broken: true,
-    })
+    Ok(false)
+}
+
+// A line, as `cut: 3 attempts, 2 malformed, 3 agree`.
+fn print_count(rt: &impl Print, name: &str, count: Count<2>) -> io::Result<()> {
+    let [malformed, agree] = count.held;
+    println!(rt;
+        "{name}: {} attempts, {malformed} malformed, {agree} agree",
+        count.all
+    )
 }
 
 fn main(rt: HostRuntime) -> io::Result<()> {
-    let r = run(&rt, &mut rt.stdin())?;
-    let t = r.tally;
+    let mut groups = Groups::empty();
+    let whole = run(&rt, &mut rt.stdin(), &mut groups)?;
     println!(rt)?;
-    t.group(1).print(&rt, "vectors")?;
-    t.group(2).print(&rt, "cut")?;
-    t.group(3).print(&rt, "long")?;
-    t.group(4).print(&rt, "limits")?;
-    t.group(5).print(&rt, "letters")?;
-    t.group(6).print(&rt, "ranges")?;
-    let other = t.group(0);
-    if 0 < other.attempts {
-        other.print(&rt, "other")?;
+    let names = ["vectors", "cut", "long", "limits", "letters", "ranges"];
+    for (name, count) in names.iter().zip(&groups.places[1..]) {
+        print_count(&rt, name, *count)?;
     }
-    t.total.print(&rt, "total")?;
-    if r.broken {
+    let other = groups.places[0];
+    if 0 < other.all {
+        print_count(&rt, "other", other)?;
+    }
+    print_count(&rt, "total", groups.total)?;
+    if !whole {
         println!(rt; "broken")?;
     }
     Ok(())

@@ -10,7 +10,8 @@ use native.Mathlib.Omega.{arith}
 use native.Mathlib.Decide.{dec_lt}
 use borrow.Author.Tests.{le-leb, lt-leb, ne_eqb}
 use lib.Dec.{leb}
-use Rattle.events_toad.specs.declared.ToadResult.TheVariants.{Valid, OutOfRange, Overflow}
+use Rattle.std.proofs.Common.{Ok, Err}
+use Rattle.events_toad.specs.declared.ToadError.TheVariants.{OutOfRange, Overflow}
 use Rattle.events_toad.specs.Toads.{toad_of, toad_number, exact_ok, exact_of, ceil, strong_majority, least_of, ample_of}
 
 -- one rule for 0 and for every other count
@@ -26,11 +27,11 @@ pub below-fits : (n : ℕ) → n < 6442450943 → least_of n ≤ 4294967295
 unfolding strong_majority ceil
 below-fits n h = omega (arith, least-any n)
 
-pub ample-valid : (n : ℕ) → n < 6442450943 → ample_of n ≡ Valid (toad_of (least_of n))
+pub ample-valid : (n : ℕ) → n < 6442450943 → ample_of n ≡ Ok (toad_of (least_of n))
 unfolding ample_of
 ample-valid n h = rw (le-leb (least_of n) 4294967295 (below-fits n h))
 
-pub ample-overflow : (n : ℕ) → 6442450943 ≤ n → ample_of n ≡ Overflow n
+pub ample-overflow : (n : ℕ) → 6442450943 ≤ n → ample_of n ≡ Err (Overflow n)
 unfolding ample_of
 ample-overflow n h =
     let l : 4294967295 < least_of n = elim (dec_lt 4294967295 (least_of n)) [ yes p ↦ p | no p ↦ absurd (omega (arith, fits_below n (omega arith))) ] in
@@ -48,7 +49,7 @@ pub exact-number : (t n : ℕ) → toad_number (exact_of t n) ≡ cond (exact_ok
 unfolding exact_of
 exact-number t n = go (exact_ok t n)
   where
-    go : (b : Bool) → toad_number (cond b (Valid (toad_of t)) (OutOfRange t n)) ≡ cond b 0 26
+    go : (b : Bool) → toad_number (cond b (Ok (toad_of t)) (Err (OutOfRange t n))) ≡ cond b 0 26
     go true = refl
     go false = refl
 
@@ -56,6 +57,6 @@ pub ample-number : (n : ℕ) → toad_number (ample_of n) ≡ cond (leb (least_o
 unfolding ample_of
 ample-number n = go (leb (least_of n) 4294967295)
   where
-    go : (b : Bool) → toad_number (cond b (Valid (toad_of (least_of n))) (Overflow n)) ≡ cond b 0 26
+    go : (b : Bool) → toad_number (cond b (Ok (toad_of (least_of n))) (Err (Overflow n))) ≡ cond b 0 26
     go true = refl
     go false = refl

@@ -8,131 +8,109 @@
 // or the input of `status`. Behind a refusal there is no next state, since the one that was handed in stays.
 #![tactic(auto)]
 
-mod tally;
-
-ghost use Rattle.std.specs.Prelude.{◌≤◌, length};
+ghost use Rattle.std.specs.Prelude.{◌≡◌};
+ghost use Rattle.folds.specs.Counting.{place_of};
 
 use folds_judge::Finding;
 use folds_judge::judge::{body_size, judge_record};
-use reading::read_full;
+use reading::{Next, read_full, read_part};
 use std::io;
 use std::io::Read;
-use tally::Tally;
+use tally::{Count, Tally};
 
+// A case: the number that is expected, the Rust's own, and what is found.
 #[derive(Clone, Copy)]
-enum Next {
-    Case {
-        number: u8,
-        rust: u8,
-        finding: Finding,
-    },
-    End,
-    // The input ends inside a record, or a record is longer than any that there is room for.
-    Broken,
+struct Case {
+    number: u8,
+    rust: u8,
+    finding: Finding,
 }
 
-#[derive(Clone, Copy)]
-struct Outcome {
-    tally: Tally,
-    broken: bool,
-}
+// Of each number how many cases there were, how many agree, in how many the states can't be read, and in how many the Rust gives another.
+type Numbers = Tally<3, 41>;
 
-// Whether n bytes are there. They come to the start of the buffer.
-fn read_body(reader: &mut impl Read, buffer: &mut [u8], n: usize) -> io::Result<bool>
-    requires { n ≤ length buffer.old }
+// The numbers 0 to 39 are counted at their places, and any other at 40.
+fn place(number: u8) -> usize
+    ensures { result ≡ place_of number }
 {
-    Ok(read_full(reader, &mut buffer[..n])? == n)
+    usize::from(number).min(40)
 }
 
-fn next_record(reader: &mut impl Read, buffer: &mut [u8]) -> io::Result<Next>
-    requires { 65536 ≤ length buffer.old }
-{
-    let mut first = [0u8; 46];
-    let n = read_full(reader, &mut first)?;
-    if n == 0 {
-        return Ok(Next::End);
+fn next_record(reader: &mut impl Read, buffer: &mut [u8]) -> io::Result<Next<Case>> {
+    let mut head = [0u8; 46];
+    match read_full(reader, &mut head)? {
+        46 => {}
+        0 => return Ok(Next::End),
+        _ => return Ok(Next::Broken),
     }
-    if n < 46 {
+    let length = body_size(&head);
+    let body = read_part(reader, buffer, length)?;
+    if body.len() < length {
         return Ok(Next::Broken);
     }
-    let length = body_size(&first);
-    if 65536 < length {
-        return Ok(Next::Broken);
-    }
-    if !read_body(reader, buffer, length)? {
-        return Ok(Next::Broken);
-    }
-    let finding = judge_record(&first, &buffer[..length]);
-    Ok(Next::Case {
-        number: first[2],
-        rust: first[1],
-        finding,
-    })
+    Ok(Next::Record(Case {
+        number: head[2],
+        rust: head[1],
+        finding: judge_record(&head, body),
+    }))
 }
 
-// A loop has to end, and nothing says that the input does. So it has a number of turns that no run uses up.
-fn run(reader: &mut impl Read) -> io::Result<Outcome> {
+// Whether the input ends behind a record. A loop has to end, and nothing says that the input does. So it has a number of turns that no
+// run uses up.
+fn run(reader: &mut impl Read, numbers: &mut Numbers) -> io::Result<bool> {
     let mut buffer = [0u8; 65536];
-    let mut tally = Tally::empty();
     for _ in 0..u64::MAX {
         match next_record(reader, &mut buffer)? {
-            Next::Case {
-                number,
-                rust,
-                finding,
-            } => {
-                tally = tally.counted(number, rust, finding);
+            Next::Record(case) => {
+                let Case {
+                    number,
+                    rust,
+                    finding,
+                } = case;
+                numbers.count(
+                    place(number),
+                    [finding.agrees, !finding.read, number != rust],
+                );
             }
-            Next::End => {
-                return Ok(Outcome {
-                    tally,
-                    broken: false,
-                });
-            }
-            Next::Broken => break,
+            Next::End => return Ok(true),
+            Next::Broken => return Ok(false),
         }
     }
-    Ok(Outcome {
-        tally,
-        broken: true,
-    })
+    Ok(false)
 }
 
-// A line for a number that occurs, as `24: 3 cases, 3 agree`.
-fn print_number(rt: &impl Print, t: Tally, number: usize) -> io::Result<()> {
-    let c = t.numbered(number);
-    if 0 < c.cases {
-        print!(rt; "{number}: ")?;
-        c.print(rt)?;
+// The end of a line, as `3 cases, 3 agree`.
+fn print_count(rt: &impl Print, count: Count<3>) -> io::Result<()> {
+    let [agree, _, _] = count.held;
+    println!(rt; "{} cases, {agree} agree", count.all)
+}
+
+// A line for each number that occurs, as `24: 3 cases, 3 agree`.
+fn print_numbers(rt: &impl Print, counts: &[Count<3>]) -> io::Result<()> {
+    for (number, count) in counts.iter().enumerate() {
+        if 0 < count.all {
+            print!(rt; "{number}: ")?;
+            print_count(rt, *count)?;
+        }
     }
     Ok(())
-}
-
-fn print_numbers(rt: &impl Print, t: Tally) -> io::Result<()> {
-    for number in 0..40 {
-        print_number(rt, t, number)?;
-    }
-    Ok(())
-}
-
-fn print_line(rt: &impl Print, name: &str, n: u64) -> io::Result<()> {
-    println!(rt; "{name}: {n}")
 }
 
 fn main(rt: HostRuntime) -> io::Result<()> {
-    let r = run(&mut rt.stdin())?;
-    let t = r.tally;
-    print_numbers(&rt, t)?;
-    let other = t.numbered(40);
-    if 0 < other.cases {
+    let mut numbers = Numbers::empty();
+    let whole = run(&mut rt.stdin(), &mut numbers)?;
+    print_numbers(&rt, &numbers.places[..40])?;
+    let other = numbers.places[40];
+    if 0 < other.all {
         print!(rt; "other: ")?;
-        other.print(&rt)?;
+        print_count(&rt, other)?;
     }
     print!(rt; "total: ")?;
-    t.total.print(&rt)?;
-    print_line(&rt, "states that are not read", t.unread)?;
-    print_line(&rt, "another number in the Rust", t.others)?;
-    if r.broken {
+    print_count(&rt, numbers.total)?;
+    let [_, unread, others] = numbers.total.held;
+    println!(rt; "states that are not read: {unread}")?;
+    println!(rt; "another number in the Rust: {others}")?;
+    if !whole {
         println!(rt; "broken")?;
     }
     Ok(())

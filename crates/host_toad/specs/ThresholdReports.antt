@@ -1,26 +1,24 @@
 -- The reports of thresholds (docs/RULES.md, "Host's calls").
-use Rattle.std.specs.Prelude.{ℕ, List, [], ◌∷◌}
-use Rattle.events_toad.specs.declared.ToadResult.{ToadResult}
-use Rattle.events_toad.specs.declared.ToadResult.TheVariants.{Valid, OutOfRange, Overflow}
+use Rattle.std.specs.Prelude.{ℕ, List, [], ◌∷◌, Result, Ok, Err}
+use Rattle.events_toad.specs.declared.Toad.{Toad}
+use Rattle.events_toad.specs.declared.ToadError.{ToadError}
 use Rattle.registry_error.specs.declared.RegistryRejection.TheVariants.{BackerThreshold}
 use Rattle.registry_error.specs.declared.Answer.{Answer}
 use Rattle.registry_error.specs.declared.Answer.TheVariants.{Accepted, Rejected}
 use Rattle.host_report.specs.Reports.{report_with}
 
 -- a threshold, or why there is none, as an answer; and its toad, 0 where there is none
-abbrev pub threshold_answer : ToadResult → Answer
-threshold_answer (Valid t) = Accepted
-threshold_answer (OutOfRange t n) = Rejected BackerThreshold
-threshold_answer (Overflow n) = Rejected BackerThreshold
+abbrev pub threshold_answer : Result Toad ToadError → Answer
+threshold_answer (Ok t) = Accepted
+threshold_answer (Err e) = Rejected BackerThreshold
 
-abbrev pub toad_in : ToadResult → ℕ
-toad_in (Valid t) = t.0
-toad_in (OutOfRange t n) = 0
-toad_in (Overflow n) = 0
+abbrev pub toad_in : Result Toad ToadError → ℕ
+toad_in (Ok t) = t.0
+toad_in (Err e) = 0
 
 -- `exact` gives no values, `ample` the toad
-abbrev pub exact_report : ToadResult → List ℕ
+abbrev pub exact_report : Result Toad ToadError → List ℕ
 exact_report r = report_with (threshold_answer r) []
 
-abbrev pub ample_report : ToadResult → List ℕ
+abbrev pub ample_report : Result Toad ToadError → List ℕ
 ample_report r = report_with (threshold_answer r) (toad_in r ∷ [])

@@ -1,5 +1,5 @@
 // What comes of an image, and whether a record expects it.
-ghost use Rattle.std.specs.Prelude.{◌≡◌, ◌≤◌};
+ghost use Rattle.std.specs.Prelude.{◌≡◌};
 ghost use Rattle.ledger_image.specs.Images.{image_of, written_of};
 ghost use Rattle.ledger_table.specs.Tables.{view_ledger, ledger_after};
 ghost use Rattle.images.specs.Judgement.{digest_of, stored_of, refused_short, short_of, key_in, facts_of, agrees_of};
@@ -38,22 +38,13 @@ struct Image {
     digest: u64,
 }
 
-fn wide(b: u8) -> u64
-    ensures value { result ≡ b }
-    ensures upper_bound { result ≤ 255 }
-{
-    b as u64
-}
-
 // What tells images apart. The modulus is a prime, so that a single changed byte always shows.
 fn digest(s: &[u8]) -> u64
     ensures { result ≡ digest_of s.now }
 {
-    let mut c: u64 = 0;
-    let mut i = 0;
-    while i < s.len() {
-        c = (c * 31 + wide(s[i]) + 1) % 4294967291;
-        i += 1;
+    let mut c = 0;
+    for byte in s {
+        c = (c * 31 + u64::from(*byte) + 1) % 4294967291;
     }
     c
 }

@@ -7,61 +7,34 @@
 #![tactic(auto)]
 
 mod answer;
-mod tally;
 
-ghost use Rattle.std.specs.Prelude.{◌≡◌, ◌≤◌, length};
+ghost use Rattle.std.specs.Prelude.{◌≡◌, length};
 
 use answer::{Facts, agrees, answer};
 use cesr_number::number::read_u16;
 use ledger_table::Ledger;
-use reading::read_full;
+use reading::{Next, read_full, read_part};
 use std::io;
 use std::io::Read;
-use tally::Tally;
+use tally::Count;
 
-#[derive(Clone, Copy)]
-enum Next {
-    // The bytes of a record stand in the first buffer, its image in the second.
-    Image,
-    End,
-    // The input ends inside a record.
-    Broken,
-}
-
-#[derive(Clone, Copy)]
-struct Outcome {
-    tally: Tally,
-    broken: bool,
-}
-
-// The length of a record's image.
-fn image_length(first: &[u8]) -> usize
-    ensures { result ≤ 65535 }
-{
-    read_u16(first, 78) as usize
-}
-
-// Whether n bytes are there. They come to the start of the buffer.
-fn read_body(reader: &mut impl Read, buffer: &mut [u8], n: usize) -> io::Result<bool>
-    requires { n ≤ length buffer.old }
-{
-    Ok(read_full(reader, &mut buffer[..n])? == n)
-}
-
-fn next_record(reader: &mut impl Read, first: &mut [u8], buffer: &mut [u8]) -> io::Result<Next>
-    requires { 65535 ≤ length buffer.old }
-{
-    let n = read_full(reader, first)?;
-    if n == 0 {
-        return Ok(Next::End);
+// A record's first bytes come to the first buffer, and its image to the second.
+fn next_record<'a>(
+    reader: &mut impl Read,
+    first: &mut [u8; 80],
+    buffer: &'a mut [u8],
+) -> io::Result<Next<&'a [u8]>> {
+    match read_full(reader, first)? {
+        80 => {}
+        0 => return Ok(Next::End),
+        _ => return Ok(Next::Broken),
     }
-    if n < 80 {
+    let length = usize::from(read_u16(first, 78));
+    let image = read_part(reader, buffer, length)?;
+    if image.len() < length {
         return Ok(Next::Broken);
     }
-    if !read_body(reader, buffer, image_length(first))? {
-        return Ok(Next::Broken);
-    }
-    Ok(Next::Image)
+    Ok(Next::Record(image))
 }
 
 // A buffer for images that must not be written. None starts with this byte, so that one that is written shows.
@@ -71,63 +44,48 @@ fn other_buffer() -> [u8; 65536]
     [255; 65536]
 }
 
-fn print_spaced(rt: &impl Print, n: u64) -> io::Result<()> {
-    print!(rt; " {n}")
-}
-
 // A line for an image, as `3 0 3 4 929 0 1`: its position from 1, the number, what is held, the length, and the look-up's answer.
 fn print_line(rt: &impl Print, position: u64, f: Facts, agrees: bool) -> io::Result<()> {
-    print!(rt; "{position}")?;
-    print_spaced(rt, f.number as u64)?;
-    print_spaced(rt, f.registries as u64)?;
-    print_spaced(rt, f.rows as u64)?;
-    print_spaced(rt, f.size as u64)?;
-    print_spaced(rt, f.refusal as u64)?;
-    print_spaced(rt, f.standing as u64)?;
+    print!(rt;
+        "{position} {} {} {} {} {} {}",
+        f.number, f.registries, f.rows, f.size, f.refusal, f.standing
+    )?;
     if !agrees {
         print!(rt; " differs")?;
     }
     println!(rt)
 }
 
+// How many images there were and how many came to what was expected are counted. It answers whether the input ends behind a record.
 // A loop has to end, and nothing says that the input does. So it has a number of turns that no run uses up.
-fn run(rt: &impl Print, reader: &mut impl Read) -> io::Result<Outcome> {
+fn run(rt: &impl Print, reader: &mut impl Read, images: &mut Count<1>) -> io::Result<bool> {
     let mut first = [0u8; 80];
     let mut buffer = [0u8; 65536];
     let mut out = [0u8; 65536];
     let mut other = other_buffer();
     let mut ledger = Ledger::empty();
-    let mut tally = Tally::empty();
     for _ in 0..u64::MAX {
         match next_record(reader, &mut first, &mut buffer)? {
-            Next::Image => {
-                let n = image_length(&first);
-                let a = answer(ledger, &first, &buffer[..n], &mut out, &mut other);
+            Next::Record(image) => {
+                let a = answer(ledger, &first, image, &mut out, &mut other);
                 let agrees = agrees(a.facts, &first);
                 ledger = a.ledger;
-                tally = tally.counted(agrees);
-                print_line(rt, tally.images, a.facts, agrees)?;
+                images.count([agrees]);
+                print_line(rt, images.all, a.facts, agrees)?;
             }
-            Next::End => {
-                return Ok(Outcome {
-                    tally,
-                    broken: false,
-                });
-            }
-            Next::Broken => break,
+            Next::End => return Ok(true),
+            Next::Broken => return Ok(false),
         }
     }
-    Ok(Outcome {
-        tally,
-        broken: true,
-    })
+    Ok(false)
 }
 
 fn main(rt: HostRuntime) -> io::Result<()> {
-    let r = run(&rt, &mut rt.stdin())?;
-    let t = r.tally;
-    print!(rt; "{} images, {} as expected", t.images, t.agree)?;
-    if r.broken {
+    let mut images = Count::zero();
+    let whole = run(&rt, &mut rt.stdin(), &mut images)?;
+    let [agree] = images.held;
+    print!(rt; "{} images, {agree} as expected", images.all)?;
+    if !whole {
         print!(rt; " broken")?;
     }
     println!(rt)

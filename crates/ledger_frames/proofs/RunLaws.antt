@@ -3,7 +3,9 @@
 --     run-bytes      65,535 turns are always enough
 --     run-printed    what such a run prints is what the program has to print
 use Prim.Native.Nat.{ℕ, zero, suc, ◌+◌, ◌-◌, ◌≤◌, ◌<◌}
-use mathlib.Core.Path.{◌≡◌, refl, sym, ◌∙◌}
+use mathlib.Core.Path.{◌≡◌, refl, sym}
+use Rattle.std.proofs.Common.{Some, None}
+use Rattle.std.specs.Option.{unwrap_or}
 use mathlib.Core.Bool.{Bool, true, false, cond}
 use mathlib.Core.List.{List, [], ◌∷◌}
 use native.Mathlib.Nat.{sub_self}
@@ -14,7 +16,7 @@ use lib.ListN.{length, take, drop, length-take, length-drop}
 use lib.Seq.{get_or-take}
 use Rattle.laws.specs.Number.{number, number_at, Bytes}
 use Rattle.laws.specs.Room.{room}
-use Rattle.laws.proofs.Number.{number-below, whole-number}
+use Rattle.laws.proofs.Number.{number-below}
 use Rattle.laws.proofs.Room.{room-true, room-false, true-room, false-room}
 use Rattle.ledger_frames.specs.declared.Run.{Run}
 use Rattle.ledger_frames.specs.Frames.{frames_in, frames_of}
@@ -26,16 +28,14 @@ pair-taken : (s : List ℕ) → number (take 2 s) 0 2 ≡ number s 0 2
 unfolding number
 pair-taken s = rw (get_or-take 2 s 0 0 (omega arith), get_or-take 2 s 1 0 (omega arith))
 
-size-whole : (s : List ℕ) → 2 ≤ length s → size_of (take 2 s) ≡ record { ok = true; size = number s 0 2 }
+size-whole : (s : List ℕ) → 2 ≤ length s → size_of (take 2 s) ≡ Some (number s 0 2)
 unfolding size_of
 size-whole s h =
     let g : 0 + 2 ≤ length (take 2 s) = rw length-take (omega arith) in
-    let a = true-room (take 2 s) 0 2 g in
-    let b = whole-number (take 2 s) 0 2 g ∙ pair-taken s in
-    λ i. record { ok = a i; size = b i }
+    rw (true-room (take 2 s) 0 2 g, pair-taken s)
 
-size_none : (s : List ℕ) → length s < 2 → size_of (take 2 s) ≡ record { ok = false; size = 0 }
-unfolding size_of number_at
+size_none : (s : List ℕ) → length s < 2 → size_of (take 2 s) ≡ None
+unfolding size_of
 size_none s h =
     let g : length (take 2 s) < 0 + 2 = rw length-take (omega arith) in
     rw (false-room (take 2 s) 0 2 g)
@@ -56,7 +56,7 @@ some : (n : ℕ) → ltb 0 (suc n) ≡ true
 some n = lt-ltb 0 (suc n) (omega arith)
 
 -- an attempt that is there whole
-took-whole : (count left : ℕ) (s : List ℕ) → 2 + number s 0 2 ≤ length s → took_of (at count (suc left)) (size_of (take 2 s)) (length (take (size_of (take 2 s)).size (drop 2 s))) ≡ at count left
+took-whole : (count left : ℕ) (s : List ℕ) → 2 + number s 0 2 ≤ length s → took_of (at count (suc left)) (size_of (take 2 s)) (length (take (unwrap_or (size_of (take 2 s)) 0) (drop 2 s))) ≡ at count left
 unfolding took_of
 took-whole count left s h =
     let z = size-whole s (omega arith) in
@@ -65,16 +65,16 @@ took-whole count left s h =
     rw (z, some left, e, le-leb (number s 0 2) (length (take (number s 0 2) (drop 2 s))) g)
 
 -- one that is not: its length is not there, or its body is not
-took-short : (count left : ℕ) (s : List ℕ) → length s < 2 + number s 0 2 → took_of (at count (suc left)) (size_of (take 2 s)) (length (take (size_of (take 2 s)).size (drop 2 s))) ≡ stopped count
+took-short : (count left : ℕ) (s : List ℕ) → length s < 2 + number s 0 2 → took_of (at count (suc left)) (size_of (take 2 s)) (length (take (unwrap_or (size_of (take 2 s)) 0) (drop 2 s))) ≡ stopped count
 unfolding took_of
 took-short count left s h = go (room s 0 2) refl
   where
-    go : (b : Bool) → room s 0 2 ≡ b → took_of (at count (suc left)) (size_of (take 2 s)) (length (take (size_of (take 2 s)).size (drop 2 s))) ≡ stopped count
+    go : (b : Bool) → room s 0 2 ≡ b → took_of (at count (suc left)) (size_of (take 2 s)) (length (take (unwrap_or (size_of (take 2 s)) 0) (drop 2 s))) ≡ stopped count
     go true e =
         let z = size-whole s (room-true s 0 2 e) in
         let g : length (take (number s 0 2) (drop 2 s)) < number s 0 2 = rw (length-take, length-drop) (omega (arith, room-true s 0 2 e)) in
         rw (z, some left, lt-leb (number s 0 2) (length (take (number s 0 2) (drop 2 s))) g)
-    go false e = rw (size_none s (room-false s 0 2 e), some left)
+    go false e = rw (size_none s (room-false s 0 2 e))
 
 -- one byte more is asked for, and that is enough to see that some are there
 ends : (s : List ℕ) → ltb 0 (length (take 1 s)) ≡ ltb 0 (length s)

@@ -1,32 +1,36 @@
 // How the program's input is cut in attempts (docs/RULES.md, "What the program prints"). The input may be of any length, so it is
 // read piece by piece: two bytes for the count, then two bytes and a body for each attempt. What each piece means is decided here.
-ghost use Rattle.std.specs.Prelude.{◌≡◌, ◌-◌, ◌≤◌, ltb};
+ghost use Rattle.std.specs.Prelude.{◌≡◌, ◌-◌, ◌≤◌, ltb, IfSome};
 ghost use Rattle.ledger_frames.specs.Runs.{size_of, start_of, took_of, finish_of};
 
-use crate::{Run, Size};
+use crate::Run;
 use cesr_number::number::{has_room, read_u16};
 
-pub fn read_size(s: &[u8]) -> Size
+// A count or a length, from the bytes that were read for it: none where two did not arrive.
+#[tactic(auto, unfolding(crate::specs::Runs::size_of, laws::specs::Room::room, laws::specs::Number::number_at))]
+pub fn read_size(s: &[u8]) -> Option<usize>
     ensures value { result ≡ size_of s.now }
-    ensures size_bound { result.size ≤ 65535 }
+    ensures size_bound { IfSome result (λ n. n ≤ 65535) }
 {
-    Size {
-        ok: has_room(s.len(), 0, 2),
-        size: read_u16(s, 0) as usize,
+    if has_room(s.len(), 0, 2) {
+        Some(usize::from(read_u16(s, 0)))
+    } else {
+        None
     }
 }
 
 impl Run {
     // From the bytes that were read for the count.
+    #[tactic(auto, unfolding(crate::specs::Runs::start_of))]
     pub fn start(s: &[u8]) -> Run
         ensures { result ≡ start_of s.now }
     {
-        let z = read_size(s);
-        let ok = z.ok;
+        let size = read_size(s);
+        let count = size.unwrap_or(0);
         Run {
-            count: z.size,
-            left: z.size,
-            broken: !ok,
+            count,
+            left: count,
+            broken: size.is_none(),
         }
     }
 
@@ -39,20 +43,20 @@ impl Run {
 
     // After the bytes for a length were read, and for the body as many as it says, of which got arrived. The attempt is there whole
     // where the answer is not broken.
-    pub fn took(self, length: Size, got: usize) -> Run
+    #[tactic(auto, unfolding(crate::specs::Runs::took_of))]
+    pub fn took(self, length: Option<usize>, got: usize) -> Run
         ensures { result ≡ took_of self length got }
     {
-        if (0 < self.left) & length.ok & (length.size <= got) {
-            return Run {
-                count: self.count,
+        match length {
+            Some(n) if self.wants() & (n <= got) => Run {
                 left: self.left - 1,
-                broken: self.broken,
-            };
-        }
-        Run {
-            count: self.count,
-            left: 0,
-            broken: true,
+                ..self
+            },
+            _ => Run {
+                left: 0,
+                broken: true,
+                ..self
+            },
         }
     }
 
@@ -60,20 +64,17 @@ impl Run {
     pub fn position(self) -> u64
         ensures { result ≡ self.count - self.left }
     {
-        if self.left <= self.count {
-            return (self.count - self.left) as u64;
-        }
-        0
+        self.count.saturating_sub(self.left) as u64
     }
 
     // After the last attempt, when more bytes arrived behind it.
+    #[tactic(auto, unfolding(crate::specs::Runs::finish_of))]
     pub fn finish(self, more: usize) -> Run
         ensures { result ≡ finish_of self more }
     {
         Run {
-            count: self.count,
-            left: self.left,
-            broken: self.broken | (0 < self.left) | (0 < more),
+            broken: self.broken | self.wants() | (0 < more),
+            ..self
         }
     }
 }

@@ -4,13 +4,6 @@
 
 pub mod framing;
 
-// A count or a length, from the bytes that were read for it; where two did not arrive it is 0 and not ok.
-#[derive(Clone, Copy)]
-pub struct Size {
-    pub ok: bool,
-    pub size: usize,
-}
-
 // How far the input is read: the attempts that it counts, those of them that are still to come, and whether it is broken.
 #[derive(Clone, Copy)]
 pub struct Run {

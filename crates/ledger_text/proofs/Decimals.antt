@@ -2,19 +2,21 @@
 --     decimal-small, decimal-large   a number below ten is its digit; any other is the digits of its tenth, then its last digit
 --     decimal-length                 how many digits a number has at most
 --     decimal-spelled                the digits, from the number of them
+--     copied                         a text that is copied is stored byte by byte
 use Prim.Native.Nat.{ℕ, zero, suc, ◌+◌, ◌*◌, ◌/◌, ◌%◌, ◌^◌, ◌≤◌, ◌<◌}
-use mathlib.Core.Path.{◌≡◌, refl, ap}
+use mathlib.Core.Path.{◌≡◌, refl, sym, ap}
 use mathlib.Core.Bool.{Bool, true, false}
-use mathlib.Core.List.{List, [], ◌∷◌, ◌++◌}
+use mathlib.Core.List.{List, [], ◌∷◌, ◌++◌, append_assoc}
 use native.Mathlib.Nat.{div-lt_self, div-lt_iff_lt-mul, mod-eq_of_lt, pow-zero, pow-suc}
 use native.Mathlib.Numerals.{add-one}
 use native.Mathlib.Omega.{arith}
 use borrow.Author.Tests.{ltb-true, ltb-false, lt-ltb, le-ltb}
 use lib.Dec.{ltb, lit<}
 use lib.ListN.{length, set, get_or, take, length-append}
-use lib.Seq.{sets, length-take-le}
+use lib.Seq.{sets, sets-eq, length-take-le}
+use borrow.Rule.Slice.PartMut.{put_mid}
+use Rattle.std.proofs.lemmas.List.{drop-drop}
 use Rattle.laws.proofs.Room.{sets-snoc, sets-append}
-use Rattle.laws.proofs.Views.{take_step}
 use Rattle.ledger_text.specs.Lines.{decimal_in, decimal}
 
 pub tenth : (n : ℕ) → 10 ≤ n → n / 10 < n
@@ -101,8 +103,8 @@ places-end d k rest h e = let f : length (decimal rest) ≡ 1 = rw (decimal-smal
 pub digit-put : (l : List ℕ) (at i j rest : ℕ) → i + 1 ≡ j → sets (set l (at + i) (48 + rest % 10)) at (spelled i (rest / 10)) ≡ sets l at (spelled j rest)
 digit-put l at i j rest e = rw (← e, spelled_step i rest, sets-snoc l at (spelled i (rest / 10)) (48 + rest % 10), length-spelled i (rest / 10))
 
--- one byte more of a text
-pub text-step : (l : List ℕ) (at i : ℕ) (text : List ℕ) → i < length text → set (sets l at (take i text)) (at + i) (get_or text i 0) ≡ sets l at (take (i + 1) text)
-text-step l at i text h =
-    let e : length (take i text) ≡ i = length-take-le i text (omega arith) in
-    rw (take_step text i 0 h, sets-append, e)
+pub copied : (xs ys : List ℕ) (a k : ℕ) → k ≡ length ys → a + k ≤ length xs → put_mid a k xs ys ≡ sets xs a ys
+copied xs ys a k e h =
+    let h' : a + length ys ≤ length xs = omega arith in
+    let stored = rw append_assoc at (sets-eq ys xs a h') in
+    rw (e, drop-drop) (sym stored)

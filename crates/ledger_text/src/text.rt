@@ -26,16 +26,15 @@ fn put_decimal(out: &mut [u8], at: usize, k: usize, n: u64)
     requires k_in_bounds { at + k ≤ length out.old }
     ensures { out.new ≡ sets out.old at (decimal n) }
 {
-    let mut i = k;
     let mut rest = n;
-    while 0 < i {
-        i -= 1;
-        out[at + i] = 48 + (rest % 10) as u8;
+    for i in (0..k).rev() {
+        out[at + i] = b'0' + (rest % 10) as u8;
         rest /= 10;
     }
 }
 
 // A decimal, and the byte behind it.
+#[tactic(auto, using(crate::proofs::LineLaws::number_put))]
 fn put_number(out: &mut [u8], at: usize, k: usize, n: u64, end: u8)
     requires k_value { k ≡ length (decimal n) }
     requires k_in_bounds { at + k < length out.old }
@@ -58,11 +57,7 @@ fn put_text(out: &mut [u8], at: usize, text: &[u8])
     requires { at + length text.now ≤ length out.old }
     ensures { out.new ≡ sets out.old at text.now }
 {
-    let mut i = 0;
-    while i < text.len() {
-        out[at + i] = text[i];
-        i += 1;
-    }
+    out[at..at + text.len()].copy_from_slice(text);
 }
 
 // An attempt's line. It answers the line's length, or 0 where the buffer is too short.

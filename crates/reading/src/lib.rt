@@ -1,7 +1,7 @@
 //! Reads as much as there is room for, from an input that may come in pieces.
 #![tactic(auto)]
 
-ghost use Rattle.std.specs.Prelude.{◌≡◌, ◌≤◌, ℕ, take, length, IfOk, OnErr};
+ghost use Rattle.std.specs.Prelude.{◌≡◌, ◌≤◌, ℕ, min, take, length, IfOk, OnErr};
 ghost use Rattle.std.specs.Io.KnownBytes.{Consumes};
 ghost use Rattle.reading.specs.Fronts.{Takes};
 
@@ -17,6 +17,7 @@ pub fn read_full<R: Read>(reader: &mut R, buf: &mut [u8]) -> io::Result<usize>
     ensures err { OnErr result ((n : ℕ) × Consumes (R.remaining reader.old) (R.remaining reader.new) (take n buf.new)) }
 {
     let mut done = 0;
+    // How far a turn goes is up to the reader, so no `for` over the buffer fits.
     while done < buf.len() {
         let n = reader.read(&mut buf[done..])?;
         if n == 0 {
@@ -25,6 +26,25 @@ pub fn read_full<R: Read>(reader: &mut R, buf: &mut [u8]) -> io::Result<usize>
         done += n;
     }
     Ok(done)
+}
+
+/// Reads n bytes, or as many as the buffer has room for, and returns those that came: fewer only where the input ends.
+pub fn read_part<'a, R: Read>(reader: &mut R, buf: &'a mut [u8], n: usize) -> io::Result<&'a [u8]>
+    ensures bound { IfOk result (λ part. length part.now ≤ min n (length buf.old)) }
+    ensures front { IfOk result (λ part. Takes (R.remaining reader.old) (R.remaining reader.new) (min n (length buf.old)) (λ front. part.now ≡ front)) }
+{
+    let room = n.min(buf.len());
+    let came = read_full(reader, &mut buf[..room])?;
+    Ok(&buf[..came])
+}
+
+/// What an input of records has next.
+#[derive(Clone, Copy)]
+pub enum Next<T> {
+    Record(T),
+    End,
+    /// The input ends inside a record, or a record is longer than any that there is room for.
+    Broken,
 }
 
 #[cfg(test)]
@@ -69,6 +89,22 @@ mod tests {
         assert_eq!(rt; read_full(&mut reader, &mut buf)?, 2);
         assert_eq!(rt; buf, *b"efcd");
         assert_eq!(rt; read_full(&mut reader, &mut buf)?, 0);
+        Ok(())
+    }
+
+    #[test]
+    fn stops_at_a_part_or_at_the_end(rt: HostRuntime) -> Result<(), Fail> {
+        let mut reader = Pieces {
+            left: b"abcdefg",
+            fails: false,
+        };
+        let mut buf = [b'.'; 4];
+        assert_eq!(rt; read_part(&mut reader, &mut buf, 2)?.len(), 2);
+        assert_eq!(rt; buf, *b"ab..");
+        assert_eq!(rt; read_part(&mut reader, &mut buf, 9)?.len(), 4);
+        assert_eq!(rt; buf, *b"cdef");
+        assert_eq!(rt; read_part(&mut reader, &mut buf, 3)?.len(), 1);
+        assert_eq!(rt; buf, *b"gdef");
         Ok(())
     }
 

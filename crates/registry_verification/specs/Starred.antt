@@ -1,9 +1,9 @@
 -- The starred cases: what each of them says under the rules that the contracts cite (docs/RULES.md, "Starred cases").
-use Rattle.std.specs.Prelude.{ℕ, ◌≡◌, ◌≢◌, List, [], ◌∷◌}
+use Rattle.std.specs.Prelude.{ℕ, ◌≡◌, ◌≢◌, List, [], ◌∷◌, Ok, Err}
 use Rattle.cesr_sn.specs.Numbers.{sn_of}
 use Rattle.cesr.specs.declared.BasicPrefix.{BasicPrefix}
 use Rattle.events_toad.specs.Toads.{toad_of, exact_of, ample_of}
-use Rattle.events_toad.specs.declared.ToadResult.TheVariants.{Valid, OutOfRange}
+use Rattle.events_toad.specs.declared.ToadError.TheVariants.{OutOfRange}
 use Rattle.registry_error.specs.Errors.{disposition_of}
 use Rattle.registry_error.specs.declared.RegistryRejection.TheVariants.{OutOfOrder}
 use Rattle.registry_disposition.specs.declared.Disposition.TheVariants.{Contested, Awaiting}
@@ -30,9 +30,9 @@ pub data Case : Type 0 where
 
 -- what a case says; in the last, A, B, C and D are any four prefixes that differ
 unfoldable pub Says : Case → Type 0
-Says (exact_passes t n) = exact_of t n ≡ Valid (toad_of t)
-Says (exact_refused t n) = exact_of t n ≡ OutOfRange t n
-Says (ample_is n t) = ample_of n ≡ Valid (toad_of t)
+Says (exact_passes t n) = exact_of t n ≡ Ok (toad_of t)
+Says (exact_refused t n) = exact_of t n ≡ Err (OutOfRange t n)
+Says (ample_is n t) = ample_of n ≡ Ok (toad_of t)
 Says (out_of_order_awaits e a) = disposition_of (OutOfOrder (sn_of e) (sn_of a)) ≡ Awaiting (PriorEvents (sn_of e))
 Says (out_of_order_contested e a) = disposition_of (OutOfOrder (sn_of e) (sn_of a)) ≡ Contested
 Says one_cut_one_added =

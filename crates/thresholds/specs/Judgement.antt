@@ -1,33 +1,33 @@
 -- What a line says of a call, and whether the call gives it.
-use Rattle.std.specs.Prelude.{ℕ, List, [], ◌∷◌, Bool, not, cond, ◌&&◌, ◌||◌, eqb, leb}
-use Rattle.laws.specs.Words.{same_list}
-use Rattle.events_toad.specs.declared.ToadResult.{ToadResult}
-use Rattle.events_toad.specs.declared.ToadResult.TheVariants.{Valid, OutOfRange, Overflow}
+use Rattle.std.specs.Prelude.{ℕ, List, [], ◌∷◌, Bool, true, false, cond, ◌&&◌, ◌||◌, eqb, leb, is_some, Option, Some, None, Result, Ok, Err}
+use Rattle.std.specs.Str.{bytes_eq}
+use Rattle.events_toad.specs.declared.Toad.{Toad}
+use Rattle.events_toad.specs.declared.ToadError.{ToadError}
 use Rattle.events_toad.specs.Toads.{toad_number, exact_of, ample_of}
-use Rattle.thresholds.specs.declared.text.Decimal.{Decimal}
 use Rattle.thresholds.specs.declared.Verdict.{Verdict}
 use Rattle.thresholds.specs.declared.Verdict.TheVariants.{Exact, Ample, Unread}
 use Rattle.thresholds.specs.Texts.{head_of, rest_of, number_of}
 
 -- after `exact`: a threshold of 32 bits, a count, and the refusal's number
-unfoldable pub judge_exact : Decimal → Decimal → Decimal → Verdict
-judge_exact toad count answer =
-    cond (toad.ok && count.ok && answer.ok)
-    (cond (leb toad.value 4294967295) (Exact (eqb (toad_number (exact_of toad.value count.value)) answer.value)) Unread)
-    Unread
+abbrev pub judge_exact : Option ℕ → Option ℕ → Option ℕ → Verdict
+judge_exact (Some toad) (Some count) (Some answer) =
+    cond (leb toad 4294967295) (Exact (eqb (toad_number (exact_of toad count)) answer)) Unread
+judge_exact toad count answer = Unread
 
 -- whether a result's threshold is the one that was read, or both have none
-abbrev pub same_toad : ToadResult → Decimal → Bool
-same_toad (Valid t) n = n.ok && eqb t.0 n.value
-same_toad (OutOfRange t k) n = not n.ok
-same_toad (Overflow k) n = not n.ok
+abbrev pub same_toad : Result Toad ToadError → Option ℕ → Bool
+same_toad (Ok t) (Some n) = eqb t.0 n
+same_toad (Ok t) None = false
+same_toad (Err e) (Some n) = false
+same_toad (Err e) None = true
 
 -- after `ample`: a count, the refusal's number, and the threshold or `-`
-unfoldable pub judge_ample : Decimal → Decimal → Decimal → Bool → Verdict
-judge_ample count answer toad dash =
-    cond (count.ok && answer.ok && (toad.ok || dash))
-    (Ample (eqb (toad_number (ample_of count.value)) answer.value && same_toad (ample_of count.value) toad))
+abbrev pub judge_ample : Option ℕ → Option ℕ → Option ℕ → Bool → Verdict
+judge_ample (Some count) (Some answer) toad dash =
+    cond (is_some toad || dash)
+    (Ample (eqb (toad_number (ample_of count)) answer && same_toad (ample_of count) toad))
     Unread
+judge_ample count answer toad dash = Unread
 
 -- the words `exact` and `ample`, and the sign `-`
 abbrev pub exact_word : List ℕ
@@ -48,5 +48,5 @@ judge_of l =
     let a = number_of (head_of 32 r1) in
     let b = number_of (head_of 32 r2) in
     let c = number_of r3 in
-    cond (same_list (head_of 32 l) exact_word) (judge_exact a b c)
-    (cond (same_list (head_of 32 l) ample_word) (judge_ample a b c (same_list r3 dash_sign)) Unread)
+    cond (bytes_eq (head_of 32 l) exact_word) (judge_exact a b c)
+    (cond (bytes_eq (head_of 32 l) ample_word) (judge_ample a b c (bytes_eq r3 dash_sign)) Unread)

@@ -6,12 +6,14 @@
 mod text;
 
 ghost use Rattle.std.specs.Prelude.{◌≡◌};
+ghost use Rattle.events_toad.specs.Toads.{toad_number};
 ghost use Rattle.thresholds.specs.Judgement.{judge_exact, same_toad, judge_ample, judge_of};
 
-use events_toad::{Toad, ToadResult};
+use events_toad::{Toad, ToadError};
 use reading::read_full;
 use std::io;
-use text::Decimal;
+use tally::{Count, plus};
+use text::{cut, number};
 
 // What is found of a line.
 #[derive(Clone, Copy)]
@@ -23,133 +25,103 @@ enum Verdict {
     Unread,
 }
 
-#[derive(Clone, Copy)]
-struct Tally {
-    exact: u64,
-    exact_agree: u64,
-    ample: u64,
-    ample_agree: u64,
-    unread: u64,
+// A result's number: 0 where there is a threshold.
+fn toad_number(res: Result<Toad, ToadError>) -> u64
+    ensures { result ≡ toad_number res }
+{
+    res.map_or_else(|e| u64::from(e.number()), |_| 0)
 }
 
-fn judge_exact(toad: Decimal, count: Decimal, answer: Decimal) -> Verdict
+fn judge_exact(toad: Option<u64>, count: Option<u64>, answer: Option<u64>) -> Verdict
     ensures { result ≡ judge_exact toad count answer }
 {
-    if !(toad.ok & count.ok & answer.ok) {
+    let (Some(toad), Some(count), Some(answer)) = (toad, count, answer) else {
         return Verdict::Unread;
-    }
-    if 4294967295 < toad.value {
+    };
+    let Ok(toad) = u32::try_from(toad) else {
         return Verdict::Unread;
-    }
-    let r = Toad::exact(toad.value as u32, count.value as usize);
-    Verdict::Exact(r.number() as u64 == answer.value)
+    };
+    let res = Toad::exact(toad, count as usize);
+    Verdict::Exact(toad_number(res) == answer)
 }
 
 // Whether a result's threshold is the one that was read, or both have none.
-fn same_toad(r: ToadResult, toad: Decimal) -> bool
-    ensures { result ≡ same_toad r toad }
+fn same_toad(res: Result<Toad, ToadError>, toad: Option<u64>) -> bool
+    ensures { result ≡ same_toad res toad }
 {
-    match r {
-        ToadResult::Valid(t) => toad.ok & (t.value() as u64 == toad.value),
-        ToadResult::OutOfRange {
-            toad: _,
-            witnesses: _,
-        } => !toad.ok,
-        ToadResult::Overflow { witnesses: _ } => !toad.ok,
+    match (res, toad) {
+        (Ok(t), Some(n)) => u64::from(t.value()) == n,
+        (Err(_), None) => true,
+        _ => false,
     }
 }
 
-fn judge_ample(count: Decimal, answer: Decimal, toad: Decimal, dash: bool) -> Verdict
+fn judge_ample(count: Option<u64>, answer: Option<u64>, toad: Option<u64>, dash: bool) -> Verdict
     ensures { result ≡ judge_ample count answer toad dash }
 {
-    if !(count.ok & answer.ok & (toad.ok | dash)) {
+    let (Some(count), Some(answer)) = (count, answer) else {
+        return Verdict::Unread;
+    };
+    if !(toad.is_some() | dash) {
         return Verdict::Unread;
     }
-    let r = Toad::ample(count.value as usize);
-    Verdict::Ample((r.number() as u64 == answer.value) & same_toad(r, toad))
+    let res = Toad::ample(count as usize);
+    Verdict::Ample((toad_number(res) == answer) & same_toad(res, toad))
 }
 
+#[tactic(auto, unfolding(crate::specs::Judgement::judge_of))]
 fn judge(line: &[u8]) -> Verdict
     ensures { result ≡ judge_of line.now }
 {
-    let kind = text::head(line, b' ');
-    let after_kind = text::rest(line, b' ');
-    let after_first = text::rest(after_kind, b' ');
-    let third = text::rest(after_first, b' ');
-    let a = text::number(text::head(after_kind, b' '));
-    let b = text::number(text::head(after_first, b' '));
-    let c = text::number(third);
-    if text::same(kind, b"exact") {
-        return judge_exact(a, b, c);
-    }
-    if text::same(kind, b"ample") {
-        return judge_ample(a, b, c, text::same(third, b"-"));
-    }
-    Verdict::Unread
-}
-
-// One more where the test holds. A count at its end stays there.
-fn plus(count: u64, test: bool) -> u64 {
-    if count == 18446744073709551615 {
-        return count;
-    }
-    if test { count + 1 } else { count }
-}
-
-fn counted(t: Tally, v: Verdict) -> Tally {
-    match v {
-        Verdict::Exact(agrees) => Tally {
-            exact: plus(t.exact, true),
-            exact_agree: plus(t.exact_agree, agrees),
-            ample: t.ample,
-            ample_agree: t.ample_agree,
-            unread: t.unread,
-        },
-        Verdict::Ample(agrees) => Tally {
-            exact: t.exact,
-            exact_agree: t.exact_agree,
-            ample: plus(t.ample, true),
-            ample_agree: plus(t.ample_agree, agrees),
-            unread: t.unread,
-        },
-        Verdict::Unread => Tally {
-            exact: t.exact,
-            exact_agree: t.exact_agree,
-            ample: t.ample,
-            ample_agree: t.ample_agree,
-            unread: plus(t.unread, true),
-        },
+    let (kind, after_kind) = cut(line, b' ');
+    let (first, after_first) = cut(after_kind, b' ');
+    let (second, third) = cut(after_first, b' ');
+    let a = number(first);
+    let b = number(second);
+    let c = number(third);
+    match kind {
+        b"exact" => judge_exact(a, b, c),
+        b"ample" => judge_ample(a, b, c, third == b"-".as_slice()),
+        _ => Verdict::Unread,
     }
 }
 
-fn run(s: &[u8]) -> Tally {
-    let mut at: usize = 0;
-    let mut t = Tally {
-        exact: 0,
-        exact_agree: 0,
-        ample: 0,
-        ample_agree: 0,
+// How many lines of each kind there were, and of how many of the first two the answer is what the call gives.
+#[derive(Clone, Copy)]
+struct Lines {
+    exact: Count<1>,
+    ample: Count<1>,
+    unread: u64,
+}
+
+fn judge_all(s: &[u8]) -> Lines {
+    let mut lines = Lines {
+        exact: Count::zero(),
+        ample: Count::zero(),
         unread: 0,
     };
-    while at < s.len() {
-        let left = &s[at..];
-        t = counted(t, judge(text::head(left, b'\n')));
-        at = at + text::find(left, b'\n') + 1;
+    for line in s.split_inclusive(|b| *b == b'\n') {
+        match judge(cut(line, b'\n').0) {
+            Verdict::Exact(agrees) => lines.exact.count([agrees]),
+            Verdict::Ample(agrees) => lines.ample.count([agrees]),
+            Verdict::Unread => lines.unread = plus(lines.unread, true),
+        }
     }
-    t
+    lines
 }
 
-fn print_agree(rt: &impl Print, name: &str, agree: u64, all: u64) -> io::Result<()> {
-    println!(rt; "{name}: {agree} of {all} agree")
+fn print_agree(rt: &impl Print, name: &str, count: Count<1>) -> io::Result<()> {
+    let [agree] = count.held;
+    println!(rt; "{name}: {agree} of {} agree", count.all)
 }
 
 fn main(rt: HostRuntime) -> io::Result<()> {
     let mut buffer = [0u8; 65536];
     let n = read_full(&mut rt.stdin(), &mut buffer)?;
-    let t = run(&buffer[..n]);
-    print_agree(&rt, "exact", t.exact_agree, t.exact)?;
-    print_agree(&rt, "ample", t.ample_agree, t.ample)?;
-    println!(rt; "lines that are not read: {}", t.unread)?;
+    let lines = judge_all(&buffer[..n]);
+    print_agree(&rt, "exact", lines.exact)?;
+    print_agree(&rt, "ample", lines.ample)?;
+    println!(rt; "lines that are not read: {}", lines.unread)?;
     if n == 65536 {
         println!(rt; "the input is too long")?;
     }

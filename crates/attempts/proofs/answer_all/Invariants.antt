@@ -5,9 +5,9 @@ use Rattle.attempts.specs.Answering.{answering, output_of}
 use Rattle.attempts.proofs.Turns.{Going}
 use Rattle.attempts.proofs.answer_all.Given as goal
 
-abbrev pub invariant-loop-body : goal.invariant-loop-body
-invariant-loop-body g l =
-    record { room : length l.body ≡ 65536; going : IfSome (g.R.Read.remaining l.fn.reader) (λ s. Going answering (g.R.Read.remaining l.reader) (g.W.Write.contents l.fn.writer) (g.W.Write.contents l.writer) l.run (view_ledger l.ledger) (output_of s)) }
+abbrev pub invariant-loop-buffer : goal.invariant-loop-buffer
+invariant-loop-buffer g l =
+    record { room : length l.buffer ≡ 65536; going : IfSome (g.R.Read.remaining l.fn.reader) (λ s. Going answering (g.R.Read.remaining l.reader) (g.W.Write.contents l.fn.writer) (g.W.Write.contents l.writer) l.run (view_ledger l.ledger) (output_of s)) }
 
-abbrev pub decreases-loop-body : goal.decreases-loop-body
-decreases-loop-body g l = l.run.left
+abbrev pub decreases-loop-buffer : goal.decreases-loop-buffer
+decreases-loop-buffer g l = l.run.left

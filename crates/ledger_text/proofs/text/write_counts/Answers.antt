@@ -14,38 +14,6 @@ returns-then-not-has_room c =
     let a = c.args in
     let both = unwritten a.out.now (last_line a.registries a.credentials) _ (last-length _ _ _ _ c.places-p.ensures.value c.places-q.ensures.value) (sym c.has_room.ensures ∙ not-true _ c.if-not-has_room.true-raw) in record { value = both.0; upper_bound = both.1 }
 
-pub put_text-requires : goal.put_text-requires
-put_text-requires c =
-    let tested : (leb (0 + (c.places-p.result + c.places-q.result + 25)) (length c.args.out.now) ≡ true) =
-    sym c.has_room.ensures ∙ not-false _ c.if-not-has_room.false-raw in
-    let fits : (0 + (c.places-p.result + c.places-q.result + 25) ≤ length c.args.out.now) =
-    leb-true _ (length c.args.out.now) (tested) in
-    omega (arith, fits)
-
-pub put_number-requires : goal.put_number-requires
-put_number-requires c =
-    let tested : (leb (0 + (c.places-p.result + c.places-q.result + 25)) (length c.args.out.now) ≡ true) =
-    sym c.has_room.ensures ∙ not-false _ c.if-not-has_room.false-raw in
-    let fits : (0 + (c.places-p.result + c.places-q.result + 25) ≤ length c.args.out.now) =
-    leb-true _ (length c.args.out.now) (tested) in
-    record { k_value = c.places-p.ensures.value; k_in_bounds = omega (arith, fits, c.put_text.auto.out) }
-
-pub put_text-requires-2 : goal.put_text-requires-2
-put_text-requires-2 c =
-    let tested : (leb (0 + (c.places-p.result + c.places-q.result + 25)) (length c.args.out.now) ≡ true) =
-    sym c.has_room.ensures ∙ not-false _ c.if-not-has_room.false-raw in
-    let fits : (0 + (c.places-p.result + c.places-q.result + 25) ≤ length c.args.out.now) =
-    leb-true _ (length c.args.out.now) (tested) in
-    omega (arith, fits, c.put_text.auto.out, c.put_number.auto.out)
-
-pub put_number-requires-2 : goal.put_number-requires-2
-put_number-requires-2 c =
-    let tested : (leb (0 + (c.places-p.result + c.places-q.result + 25)) (length c.args.out.now) ≡ true) =
-    sym c.has_room.ensures ∙ not-false _ c.if-not-has_room.false-raw in
-    let fits : (0 + (c.places-p.result + c.places-q.result + 25) ≤ length c.args.out.now) =
-    leb-true _ (length c.args.out.now) (tested) in
-    record { k_value = c.places-q.ensures.value; k_in_bounds = omega (arith, fits, c.put_text.auto.out, c.put_number.auto.out, c.put_text-2.auto.out) }
-
 pub returns : goal.returns
 returns c =
     let tested : (leb (0 + (c.places-p.result + c.places-q.result + 25)) (length c.args.out.now) ≡ true) =

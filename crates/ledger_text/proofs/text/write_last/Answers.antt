@@ -17,12 +17,6 @@ returns-then-not-has_room c =
     let both = (unwritten c.args.out.now broken_line 7 refl (sym c.has_room.ensures ∙ not-true _ c.if-not-has_room.true-raw)) in
     rw (not-false c.args.broken c.if-not-broken.false-raw) (record { value = both.0; upper_bound = both.1 })
 
-pub put_text-requires : goal.put_text-requires
-put_text-requires c =
-    let fits : (leb (0 + 7) (length c.args.out.now) ≡ true) =
-    sym c.has_room.ensures ∙ not-false _ c.if-not-has_room.false-raw in
-    leb-true 7 (length c.args.out.now) (fits)
-
 pub returns : goal.returns
 unfolding broken_line
 returns c =

@@ -1,29 +1,28 @@
-use Prim.Native.Nat.{◌-◌}
-use mathlib.Core.Path.{◌≡◌, refl, ◌∙◌}
-use native.Mathlib.Omega.{arith}
+use Rattle.std.proofs.Common.{◌≡◌, ◌+◌, ◌∙◌, sym, rules, arith, length}
 use borrow.Author.Tests.{ne_eqb}
-use borrow.Author.Rules.{rules}
-use lib.ListN.{length}
-use Rattle.thresholds.specs.Texts.{all_digits, value_of, number_to, number_of}
-use Rattle.thresholds.proofs.Texts.{number_step}
+use Rattle.thresholds.specs.Texts.{number_to, number_of, all_digits, value_of}
+use Rattle.thresholds.proofs.Numbers.{number_step, number_stays}
 use Rattle.thresholds.proofs.text.number.Goals as goal
 
-pub returns-then-s-eq0 : goal.returns-then-s-eq0
-unfolding number_of
-returns-then-s-eq0 c = rw (c.none.ensures, c.if-s-eq0.true)
-
-pub loop-i-init : goal.loop-i-init
+pub loop-byte-init : goal.loop-byte-init
 unfolding number_to all_digits value_of
-loop-i-init c = (search rules, refl)
+loop-byte-init c = search rules
 
-pub loop-i-preserved : goal.loop-i-preserved
-loop-i-preserved c =
+pub returns-in_err-n : goal.returns-in_err-n
+unfolding number_of
+returns-in_err-n c =
     let s = c.args.s.now in
-    (omega arith, c.with_digit-n.ensures ∙ rw c.loop-i.invariant.1 (number_step s c.loop-i.i))
+    let i = c.loop-byte.byte-index in
+    let full = ne_eqb (length s) 0 (omega arith) in
+    let none = sym c.in_err-n.was ∙ c.with_digit.ensures ∙ number_step s i c.loop-byte.n c.loop-byte.invariant in
+    rw (c.from_residual.ensures, full) (number_stays s (i + 1) (length s) none (omega arith))
+
+pub loop-byte-preserved : goal.loop-byte-preserved
+loop-byte-preserved c = sym c.in_ok-n.was ∙ c.with_digit.ensures ∙ number_step _ _ _ c.loop-byte.invariant
 
 pub returns : goal.returns
 unfolding number_of
 returns c =
     let s = c.args.s.now in
-    let e : c.loop-i.i ≡ length s = omega arith in
-    c.loop-i.invariant.1 ∙ rw (e, ne_eqb (length s) 0 c.if-s-eq0.false)
+    let end : c.loop-byte.byte-index ≡ length s = omega arith in
+    rw (ne_eqb (length s) 0 (search rules)) (rw end at c.loop-byte.invariant)
