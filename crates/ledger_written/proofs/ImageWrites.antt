@@ -137,7 +137,8 @@ module _ (gs : List RegistryState) (m : ℕ) (ws : List CredentialState) (n : �
   unfolding answer_of
   both_hold true true k h = (refl, refl)
   both_hold true false k h = cc
-  both_hold false u k h = cc
+  both_hold false true k h = cc
+  both_hold false false k h = cc
 
   module _ (size : ℕ) (taken : answer ≡ Ok size) where
     holds-both : (sound ledger ≡ true) × (enough ≡ true)
@@ -159,7 +160,8 @@ module _ (gs : List RegistryState) (m : ℕ) (ws : List CredentialState) (n : �
   unfolding answer_of written_of
   refused-by true true e h p q = cc
   refused-by true false e h p q = rw (p, size_is p, q)
-  refused-by false u e h p q = rw p
+  refused-by false true e h p q = rw p
+  refused-by false false e h p q = rw p
 
   refused_all : (e : WriteError) → answer ≡ Err e → view_written (Err e) bs ≡ written_of ledger bs
   refused_all e h = ap (λ (r : Result ℕ WriteError). view_written r bs) (sym h) ∙ refused-by (sound ledger) enough e h refl refl
