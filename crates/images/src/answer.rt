@@ -27,7 +27,7 @@ pub struct Facts {
     pub digest: u64,
     // Whether a buffer that is a byte too short for it is refused with 30, and keeps its bytes.
     pub short: bool,
-    // What the look-up answers.
+    // What the look-up answers, in the numbers that a record expects and that are printed.
     pub refusal: u8,
     pub standing: u8,
 }
