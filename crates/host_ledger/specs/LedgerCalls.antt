@@ -6,8 +6,6 @@ use Rattle.registry_laws.specs.Pairs.{Pair}
 use Rattle.ledger_step.specs.Ledgers as L
 use Rattle.ledger_image.specs.Images as I
 use Rattle.ledger_standing.specs.Lookups.{key_pair}
-use Rattle.ledger_standing.specs.declared.LookedUp.{LookedUp}
-use Rattle.ledger_written.specs.declared.Written.{Written}
 use Rattle.host_report.specs.Reports.{plain_report}
 use Rattle.host_ledger.specs.declared.key.Key.{Key}
 
@@ -23,19 +21,12 @@ abbrev pub view_key : Key → Pair
 view_key k = key_pair k.registry k.credential
 
 -- a look-up gives the standing
-abbrev pub looked_up_report : LookedUp → List ℕ
-looked_up_report a = plain_report a.refusal (a.standing ∷ [])
+abbrev pub look_up_report : L.LookedUp → List ℕ
+look_up_report a = plain_report a.refusal (a.standing ∷ [])
 
 -- an image that is written gives its length
-abbrev pub written_report : Written → List ℕ
-written_report a = plain_report a.number (a.size ∷ [])
-
--- of the definitions' answers: a look-up reports its two numbers, and writing an image its number and how many bytes were written
-abbrev pub look_up_report : L.LookedUp → List ℕ
-look_up_report a = looked_up_report (record { refusal = a.refusal; standing = a.standing })
-
 abbrev pub image_report : I.Written → List ℕ
-image_report a = written_report (record { number = a.number; size = a.size })
+image_report a = plain_report a.number (a.size ∷ [])
 
 -- an image that is read gives no values
 abbrev pub read_report : ℕ → List ℕ

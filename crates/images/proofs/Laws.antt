@@ -5,8 +5,10 @@
 --     registries-counted, rows-counted   the counts are the ledger's
 --     key-read         the key that a record asks for
 --     facts-found      what is found of the whole
+use Rattle.std.specs.Prelude.{Result, Ok, Err}
+use Rattle.std.specs.Result.{result_unwrap_or}
 use Prim.Native.Nat.{ℕ, suc, ◌+◌, ◌*◌, ◌%◌, ◌≤◌}
-use mathlib.Core.Path.{◌≡◌, refl, ap}
+use mathlib.Core.Path.{◌≡◌, refl, ap, ◌∙◌}
 use mathlib.Core.Bool.{Bool, true, false, cond, ◌&&◌}
 use mathlib.Core.List.{List}
 use native.Mathlib.Omega.{arith}
@@ -17,11 +19,14 @@ use borrow.Author.Tests.{leb-true}
 use Rattle.cesr.specs.declared.Matter.{Matter}
 use Rattle.cesr.specs.Primitives.{read_matter}
 use Rattle.registry_laws.specs.Pairs.{Pair}
-use Rattle.ledger_step.specs.Ledgers.{Ledger, lent_ledger, sound, look_up}
+use Rattle.ledger_step.specs.Ledgers.{Ledger, LookedUp, lent_ledger, sound, look_up}
+use Rattle.ledger_step.specs.Refusals.{refusal_of}
+use Rattle.ledger_step.specs.declared.Malformed.{Malformed}
 use Rattle.ledger_image.specs.Images.{ImageAnswer, Written, image_number, ledger_bytes, written_of}
-use Rattle.ledger_standing.specs.declared.LookedUp.{LookedUp}
+use Rattle.ledger_standing.specs.declared.Standing.{Standing}
 use Rattle.ledger_standing.specs.Lookups.{key_pair, view_looked_up}
-use Rattle.ledger_written.specs.declared.Written as Code
+use Rattle.ledger_written.specs.declared.WriteError.{WriteError}
+use Rattle.ledger_written.proofs.WrittenBytes.{bytes-held, size_or}
 use Rattle.ledger_written.specs.Writes.{view_written}
 use Rattle.ledger_table.specs.declared.Ledger as Value
 use Rattle.ledger_table.specs.Tables.{view_ledger, ledger_after}
@@ -44,20 +49,26 @@ written-fits l out = go (sound l) (leb (length (ledger_bytes l)) (length out)) r
     go true false e = omega arith
     go false room e = omega arith
 
-module _ (l : Ledger) (out after : List ℕ) (r : Code.Written) (q : view_written r after ≡ written_of l out) where
-  pub written-within : r.size ≤ length after
-  written-within =
-      let e : r.size ≡ (written_of l out).size = ap (λ (w : Written). w.size) q in
-      let f : after ≡ (written_of l out).bytes = ap (λ (w : Written). w.bytes) q in
-      rw (e, f) (written-fits l out)
+module _ (l : Ledger) (out after : List ℕ) (r : Result ℕ WriteError) (q : view_written r after ≡ written_of l out) where
+  after-is : after ≡ (written_of l out).bytes
+  after-is = bytes-held r after ∙ ap (λ (w : Written). w.bytes) q
 
-  pub stored : (d : ℕ) → d ≡ digest_of (take r.size after) → ◌≡◌ {A = Image} (record { size = r.size; digest = d }) (stored_of (written_of l out))
-  unfolding stored_of
-  stored d e = rw (← q, e)
+  module _ (k : ℕ) (g : k ≡ result_unwrap_or r 0) where
+    size-is : k ≡ (written_of l out).size
+    size-is = g ∙ size_or r after ∙ ap (λ (w : Written). w.size) q
 
-  pub short : (d e : ℕ) → d ≡ digest_of out → e ≡ digest_of after → (eqb r.number 30 && eqb e d) ≡ refused_short l out
+    pub written-within : k ≤ length after
+    written-within = rw (size-is, after-is) (written-fits l out)
+
+    pub stored : (d : ℕ) → d ≡ digest_of (take k after) → ◌≡◌ {A = Image} (record { size = k; digest = d }) (stored_of (written_of l out))
+    unfolding stored_of
+    stored d e = rw (e, size-is, after-is)
+
+  pub short : (d e : ℕ) (t : Bool) → d ≡ digest_of out → e ≡ digest_of after → t ≡ eqb (view_written r after).number 30 → (t && eqb e d) ≡ refused_short l out
   unfolding refused_short
-  short d e f g = rw (← q, f, g)
+  short d e t f g h =
+      let n : t ≡ eqb (written_of l out).number 30 = h ∙ ap (λ (w : Written). eqb w.number 30) q in
+      rw (n, f, g, after-is)
 
 module _ (t : Value.Ledger) where
   pub registries-counted : t.registry_count ≡ (view_ledger t).registry_count
@@ -72,6 +83,10 @@ pub key-read : (e : List ℕ) (a b : Matter) → a ≡ read_matter e 12 → b �
 unfolding key_in
 key-read e a b p q = rw (p, q)
 
-pub facts-found : (a : ImageAnswer) (before l : Ledger) (k : Pair) (out other : List ℕ) (n gs ws : ℕ) (i : Image) (s : Bool) (f : LookedUp) → n ≡ image_number a → l ≡ ledger_after a before → gs ≡ l.registry_count → ws ≡ l.row_count → i ≡ stored_of (written_of l out) → s ≡ short_of l i.size other → view_looked_up f ≡ look_up l k → ◌≡◌ {A = Facts} (record { number = n; registries = gs; rows = ws; size = i.size; digest = i.digest; short = s; refusal = f.refusal; standing = f.standing }) (facts_of a before k out other)
+pub refusal-is : (f : Result Standing Malformed) → refusal_of f ≡ (view_looked_up f).refusal
+refusal-is (Ok s) = refl
+refusal-is (Err e) = refl
+
+pub facts-found : (a : ImageAnswer) (before l : Ledger) (k : Pair) (out other : List ℕ) (n gs ws : ℕ) (i : Image) (s : Bool) (rf sf : ℕ) (f : LookedUp) → n ≡ image_number a → l ≡ ledger_after a before → gs ≡ l.registry_count → ws ≡ l.row_count → i ≡ stored_of (written_of l out) → s ≡ short_of l i.size other → rf ≡ f.refusal → sf ≡ f.standing → f ≡ look_up l k → ◌≡◌ {A = Facts} (record { number = n; registries = gs; rows = ws; size = i.size; digest = i.digest; short = s; refusal = rf; standing = sf }) (facts_of a before k out other)
 unfolding facts_of
-facts-found a before l k out other n gs ws i s f en el eg ew ei es ef = rw (en, ← el, eg, ew, es, ← ei, ← ef)
+facts-found a before l k out other n gs ws i s rf sf f en el eg ew ei es er et ef = rw (en, ← el, eg, ew, es, ← ei, er, et, ← ef)

@@ -1,13 +1,19 @@
 // What comes of an image, and whether a record expects it.
-ghost use Rattle.std.specs.Prelude.{◌≡◌};
+ghost use Rattle.std.specs.Prelude.{◌≡◌, ℕ, List, eqb};
+ghost use Rattle.ledger_step.specs.Refusals.{refusal_of};
+ghost use Rattle.ledger_standing.specs.Lookups.{view_looked_up};
 ghost use Rattle.ledger_image.specs.Images.{image_of, written_of};
+ghost use Rattle.ledger_written.specs.Writes.{view_written};
 ghost use Rattle.ledger_table.specs.Tables.{view_ledger, ledger_after};
 ghost use Rattle.images.specs.Judgement.{digest_of, stored_of, refused_short, short_of, key_in, facts_of, agrees_of};
 
 use cesr::{Matter, Said};
 use cesr_number::number::{read_u8, read_u16, read_u32};
+use ledger::Malformed;
 use ledger::ledger::{look_up, read_image, write_image};
+use ledger_standing::Standing;
 use ledger_table::Ledger;
+use ledger_written::WriteError;
 
 #[derive(Clone, Copy)]
 pub struct Facts {
@@ -21,7 +27,7 @@ pub struct Facts {
     pub digest: u64,
     // Whether a buffer that is a byte too short for it is refused with 30, and keeps its bytes.
     pub short: bool,
-    // What the look-up answers.
+    // What the look-up answers, in the numbers that a record expects and that are printed.
     pub refusal: u8,
     pub standing: u8,
 }
@@ -38,6 +44,28 @@ struct Image {
     digest: u64,
 }
 
+// The number of an answer that may have the refusal 1.
+fn number<T>(answer: Result<T, Malformed>) -> u8
+where
+    T: Drop,
+    ensures { result ≡ refusal_of answer }
+{
+    match answer {
+        Ok(_) => 0,
+        Err(_) => 1,
+    }
+}
+
+// After a refusal there is no standing.
+fn standing_number(answer: Result<Standing, Malformed>) -> u8
+    ensures { result ≡ (view_looked_up answer).standing }
+{
+    match answer {
+        Ok(s) => s.number(),
+        Err(_) => 0,
+    }
+}
+
 // What tells images apart. The modulus is a prime, so that a single changed byte always shows.
 fn digest(s: &[u8]) -> u64
     ensures { result ≡ digest_of s.now }
@@ -49,14 +77,24 @@ fn digest(s: &[u8]) -> u64
     c
 }
 
-// The length and the digest of the image that the ledger writes.
+// The length and the digest of the image that the ledger writes. Of one that it refuses to write both are those of no bytes.
 fn written(ledger: Ledger, out: &mut [u8]) -> Image
     ensures { result ≡ stored_of (written_of (view_ledger ledger) out.old) }
 {
-    let w = write_image(ledger, out);
-    let size = w.size;
+    let answer = write_image(ledger, out);
+    let size = answer.unwrap_or(0);
     let digest = digest(&out[..size]);
     Image { size, digest }
+}
+
+fn is_short_buffer(answer: Result<usize, WriteError>) -> bool
+    ensures { (bytes : List ℕ) → result ≡ eqb (view_written answer bytes).number 30 }
+{
+    match answer {
+        Ok(_) => false,
+        Err(WriteError::Malformed) => false,
+        Err(WriteError::ShortBuffer) => true,
+    }
 }
 
 // Whether the buffer is refused with 30 and keeps its bytes.
@@ -64,8 +102,8 @@ fn refused_short(ledger: Ledger, out: &mut [u8]) -> bool
     ensures { result ≡ refused_short (view_ledger ledger) out.old }
 {
     let before = digest(out);
-    let w = write_image(ledger, out);
-    (w.number == 30) & (digest(out) == before)
+    let answer = write_image(ledger, out);
+    is_short_buffer(answer) & (digest(out) == before)
 }
 
 // The same of the part of the buffer that is a byte too short for an image of this size.
@@ -94,21 +132,21 @@ pub(crate) fn answer(
     ensures ledger { view_ledger result.ledger ≡ ledger_after (image_of image.now) (view_ledger ledger) }
 {
     let read = read_image(ledger, image);
-    let held = read.ledger;
+    let held = read.unwrap_or(ledger);
     let w = written(held, out);
     let short = is_short(held, w.size, other);
     let registry = Said(Matter::read(first, 12));
     let credential = Said(Matter::read(first, 45));
     let found = look_up(held, registry, credential);
     let facts = Facts {
-        number: read.number,
+        number: number(read),
         registries: held.registry_count,
         rows: held.row_count,
         size: w.size,
         digest: w.digest,
         short,
-        refusal: found.refusal,
-        standing: found.standing,
+        refusal: number(found),
+        standing: standing_number(found),
     };
     Answered {
         facts,

@@ -3,6 +3,7 @@
 
 pub mod ledger;
 
+pub use ledger_standing::Malformed;
 use ledger_table::Ledger;
 use registry_error::Answer;
 
@@ -10,12 +11,5 @@ use registry_error::Answer;
 #[derive(Clone, Copy)]
 pub struct LedgerApplied {
     pub answer: Answer,
-    pub ledger: Ledger,
-}
-
-// What reading an image answers: 0 or the refusal 1, and the ledger, which after a refusal is the one that was handed in.
-#[derive(Clone, Copy)]
-pub struct LedgerRead {
-    pub number: u8,
     pub ledger: Ledger,
 }

@@ -2,3 +2,5 @@
 #![tactic(auto)]
 
 pub mod image;
+
+pub use ledger_step::Malformed;

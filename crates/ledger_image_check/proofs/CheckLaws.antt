@@ -2,7 +2,7 @@
 --     image-tested       they hold exactly where the image is read as a ledger
 --     checked-held       then the answer is its counts and where its first row stands
 --     checked_refused    and otherwise zeros
---     Made, answer-held, answer-rows, answer-refused
+--     answer-broken, answer-held, answer-rows, answer-refused
 --                        the same from what the calls of the code gave
 use Prim.Native.Nat.{ℕ, ◌+◌, ◌*◌}
 use mathlib.Core.Path.{◌≡◌, refl, ap, sym, ◌∙◌}
@@ -29,7 +29,7 @@ use Rattle.ledger_image.proofs.SoundParts.{sound-parts}
 use Rattle.ledger_image.specs.Images.{wide_count, wide_section, read_registries, read_credentials, read_image, ledger_of, image_of}
 use Rattle.ledger_image.specs.Images.ImageAnswer.{refused, held}
 use Rattle.ledger_image_rows_check.specs.RowTests.{rows_stand}
-use Rattle.ledger_image_check.specs.Checks.{id_in, section_passes, checked_of}
+use Rattle.ledger_image_check.specs.Checks.{id_in, section_passes, checked_of, Passed}
 use Rattle.ledger_image_check.proofs.Counts.{count-ok, count-within, times-length, section-counted}
 use Rattle.ledger_image_check.proofs.RegistryChecks.{apart_and_sound, pass-registries, held-ids, rules-registries}
 use Rattle.ledger_image_rows_check.proofs.RowChecks.{rows_keep, rows-read, rows-well, pass-rows}
@@ -154,31 +154,33 @@ module _ (s : List ℕ) where
   unfolding checked_of
   checked_refused e = let h : image_test ≡ false = sym image-tested ∙ e in rw (image-is, h)
 
--- what is known once the registries are checked and the second count is read
-pub record Made (s : List ℕ) (ok : Bool) (ids : List Said) (d : Cursor) (n : Read ℕ) : Type 0 where
-  pub passed : ok ≡ section_passes s
-  pub listed : ids ≡ map id_in (read_registries s starting).value
-  pub behind : d ≡ (read_registries s starting).next
-  pub counted : n ≡ wide_count 256 s d
+-- where a registry does not pass
+pub answer-broken : (s : List ℕ) → section_passes s ≡ false → record { ok = false; registries = 0; rows_at = 0; rows = 0 } ≡ checked_of s
+answer-broken s p = checked_refused s (rw (p, and-false (rows_counted s).next.ok))
 
-module _ (s : List ℕ) (ok : Bool) (ids : List Said) (d : Cursor) (n : Read ℕ) (k : Made s ok ids d n) where
+-- once the registries have passed and the second count is read
+module _ (s : List ℕ) (ids : List Said) (d : Cursor) (k : Passed s ids d) (n : Read ℕ) (c : n ≡ wide_count 256 s d) where
   counts : n ≡ wide_count 256 s (read_registries s starting).next
-  counts = k.counted ∙ ap (wide_count 256 s) k.behind
+  counts = c ∙ ap (wide_count 256 s) k.behind
 
-  tests : (n.next.ok && ok) ≡ whole s
-  tests = rw (← counts, ← k.passed)
+  tests : whole s ≡ n.next.ok
+  tests = rw (k.passes, counts) (go (wide_count 256 s (read_registries s starting).next).next.ok)
+    where
+      go : (t : Bool) → (t && true) ≡ t
+      go true = refl
+      go false = refl
 
   rows-tests : rows_stand s n.next.at ids n.value ≡ rows_tested s
   rows-tests = rw (← counts, ← k.listed)
 
-  pub answer-held : (n.next.ok && ok) ≡ true → (t : Bool) → t ≡ rows_stand s n.next.at ids n.value → t ≡ true → (m : ℕ) → m ≡ length ids → record { ok = true; registries = m; rows_at = n.next.at; rows = n.value } ≡ checked_of s
-  answer-held w t r h m e =
+  pub answer-held : n.next.ok ≡ true → true ≡ rows_stand s n.next.at ids n.value → (m : ℕ) → m ≡ length ids → record { ok = true; registries = m; rows_at = n.next.at; rows = n.value } ≡ checked_of s
+  answer-held w r m e =
       let c : record { ok = true; registries = m; rows_at = (wide_count 256 s (read_registries s starting).next).next.at; rows = (wide_count 256 s (read_registries s starting).next).value } ≡ checked_of s =
-      checked-held s (sym tests ∙ w) (sym (r ∙ rows-tests) ∙ h) m (e ∙ ap length k.listed ∙ length-map (read_registries s starting).value id_in) in
+      checked-held s (tests ∙ w) (sym (r ∙ rows-tests)) m (e ∙ ap length k.listed ∙ length-map (read_registries s starting).value id_in) in
       rw counts c
 
-  pub answer-rows : (t : Bool) → t ≡ rows_stand s n.next.at ids n.value → t ≡ false → record { ok = false; registries = 0; rows_at = 0; rows = 0 } ≡ checked_of s
-  answer-rows t r h = checked_refused s (ap (λ (x : Bool). whole s && x) (sym (r ∙ rows-tests) ∙ h) ∙ and-false (whole s))
+  pub answer-rows : false ≡ rows_stand s n.next.at ids n.value → record { ok = false; registries = 0; rows_at = 0; rows = 0 } ≡ checked_of s
+  answer-rows r = checked_refused s (ap (λ (x : Bool). whole s && x) (sym (r ∙ rows-tests)) ∙ and-false (whole s))
 
-  pub answer-refused : (n.next.ok && ok) ≡ false → record { ok = false; registries = 0; rows_at = 0; rows = 0 } ≡ checked_of s
-  answer-refused w = checked_refused s (ap (λ (x : Bool). x && rows_tested s) (sym tests ∙ w))
+  pub answer-refused : n.next.ok ≡ false → record { ok = false; registries = 0; rows_at = 0; rows = 0 } ≡ checked_of s
+  answer-refused w = checked_refused s (ap (λ (x : Bool). x && rows_tested s) (tests ∙ w))

@@ -1,11 +1,13 @@
 -- The registries of an image, as they are checked one by one.
 --     pass-registries     each passes exactly where all keep the rules of one registry and no two have one id
 --     rules-registries    so they keep the reading rules that speak of registries alone
-use Prim.Native.Nat.{ℕ, zero, suc, ◌+◌}
+use Prim.Native.Nat.{ℕ, zero, suc, ◌+◌, ◌<◌, ◌≤◌}
 use mathlib.Core.Path.{◌≡◌, refl, sym, ap, ◌∙◌}
 use mathlib.Core.Bool.{Bool, true, false, not, ◌&&◌, and-false}
 use mathlib.Core.List.{List, [], ◌∷◌, ◌++◌, map, map-append}
 use native.Mathlib.Numerals.{add-one}
+use native.Mathlib.Omega.{arith}
+use borrow.Author.Tests.{leb-true, leb-false}
 use lib.Dec.{leb}
 use lib.ListN.{length, length-append}
 use Rattle.cesr.specs.Primitives.{eq_said}
@@ -24,7 +26,7 @@ use Rattle.ledger_image.specs.Ledgers.{holds, id_of, keeps_layout, keeps_rules, 
 use Rattle.ledger_image.specs.Steps.{held_now}
 use Rattle.ledger_image.proofs.Rules.{said-test}
 use Rattle.ledger_image.specs.Images.{wide_count, wide_section, read_registries}
-use Rattle.ledger_image_check.specs.Checks.{id_in, registries_pass, section_passes}
+use Rattle.ledger_image_check.specs.Checks.{id_in, registries_pass, section_passes, Passed}
 use Rattle.ledger_image_rows_check.proofs.OneMore.{distinct_snoc}
 
 -- the rules that registries keep, together
@@ -50,12 +52,12 @@ pass-registries s c (suc n) h =
     let before = pass-registries s c n (sticky-registry.before s r.next h) in
     rw (before, h) (sym (one_more r.value g.value))
 
--- where the loop over the registries stands: behind i of them, with their ids, and whether each passed
-pub record Turned (s : List ℕ) (c : Cursor) (i : ℕ) (d : Cursor) (l : List Said) (ok : Bool) : Type 0 where
+-- where the loop over the registries stands: behind i of them, with their ids, and each of them passed
+pub record Turned (s : List ℕ) (c : Cursor) (i : ℕ) (d : Cursor) (l : List Said) : Type 0 where
   pub at : d ≡ (times i read_registry s c).next
   pub ids : l ≡ map id_in (times i read_registry s c).value
   pub size : length l ≡ i
-  pub pass : ok ≡ registries_pass s c i
+  pub pass : registries_pass s c i ≡ true
 
 -- a registry that is there keeps to its layout, so only its own rules are left to test
 left-to-test : (o well rules fresh : Bool) → (o ≡ true → well ≡ true) → (o && ((well && rules) && fresh)) ≡ (o && (rules && fresh))
@@ -70,25 +72,48 @@ pass-more : (s : List ℕ) (c : Cursor) (i : ℕ) (g : Registry) (e : Cursor) �
 unfolding registries_pass
 pass-more s c i g e h = rw (add-one, ← h)
 
-pub turn : (s : List ℕ) (c : Cursor) (i : ℕ) (d : Cursor) (l : List Said) (ok : Bool) → Turned s c i d l ok
-    → (g : RegistryState) (e : Cursor) → record { value = view_registry g; next = e } ≡ read_registry s d → (e.ok ≡ true → well_registry g ≡ true)
-    → (known sound : Bool) → known ≡ has eq_said g.id l → sound ≡ (well_registry g && sound_registry (view_registry g))
-    → (m : List Said) → m ≡ l ++ (g.id ∷ []) → Turned s c (i + 1) e m (ok && (e.ok && (sound && not known)))
-turn s c i d l ok t g e q w known sound k v m p =
-    let r = times i read_registry s c in
-    let here : record { value = view_registry g; next = e } ≡ read_registry s r.next = q ∙ ap (read_registry s) t.at in
-    let more : times (i + 1) read_registry s c ≡ record { value = r.value ++ (view_registry g ∷ []); next = e } = times_more s c i (view_registry g) e here in
-    record {
-      at = ap (λ (x : Read (List Registry)). x.next) (sym more);
-      ids = p ∙ rw (t.ids, more, map-append id_in r.value (view_registry g ∷ []));
-      size = rw (p, length-append, t.size);
-      pass = rw (pass-more s c i (view_registry g) e here, t.pass, ← t.ids, ← k, v, left-to-test e.ok (well_registry g) (sound_registry (view_registry g)) (not known) w);
-    }
+-- where one does not pass, those that stand behind it do not change that
+stays-failed : (s : List ℕ) (c : Cursor) (i n : ℕ) → i ≤ n → registries_pass s c i ≡ false → registries_pass s c n ≡ false
+unfolding registries_pass
+stays-failed s c i zero h f = let e : i ≡ 0 = omega arith in rw e at f
+stays-failed s c i (suc n) h f = go (λ k. stays-failed s c i n k f) (leb i n) refl
+  where
+    go : (i ≤ n → registries_pass s c n ≡ false) → (t : Bool) → leb i n ≡ t → registries_pass s c (suc n) ≡ false
+    go before true e = rw (before (leb-true i n e))
+    go before false e = let b = leb-false i n e in let k : i ≡ suc n = omega (arith, b) in rw k at f
+
+-- one registry more, that is read, with what its tests say
+module _ (s : List ℕ) (c : Cursor) (i : ℕ) (d : Cursor) (l : List Said) (t : Turned s c i d l)
+    (g : RegistryState) (e : Cursor) (q : record { value = view_registry g; next = e } ≡ read_registry s d) (w : e.ok ≡ true → well_registry g ≡ true)
+    (known sound : Bool) (k : known ≡ has eq_said g.id l) (v : sound ≡ (well_registry g && sound_registry (view_registry g))) where
+  here : record { value = view_registry g; next = e } ≡ read_registry s (times i read_registry s c).next
+  here = q ∙ ap (read_registry s) t.at
+
+  tested : registries_pass s c (i + 1) ≡ (e.ok && (sound && not known))
+  tested = rw (pass-more s c i (view_registry g) e here, t.pass, ← t.ids, ← k, v, left-to-test e.ok (well_registry g) (sound_registry (view_registry g)) (not known) w)
+
+  pub turn : (e.ok && (sound && not known)) ≡ true → (m : List Said) → m ≡ l ++ (g.id ∷ []) → Turned s c (i + 1) e m
+  turn h m p =
+      let r = times i read_registry s c in
+      let more : times (i + 1) read_registry s c ≡ record { value = r.value ++ (view_registry g ∷ []); next = e } = times_more s c i (view_registry g) e here in
+      record {
+        at = ap (λ (x : Read (List Registry)). x.next) (sym more);
+        ids = p ∙ rw (t.ids, more, map-append id_in r.value (view_registry g ∷ []));
+        size = rw (p, length-append, t.size);
+        pass = tested ∙ h;
+      }
+
+  pub section-fails : (e.ok && (sound && not known)) ≡ false → (n : Read ℕ) → n ≡ wide_count 16 s starting → c ≡ n.next → i < n.value → section_passes s ≡ false
+  unfolding section_passes
+  section-fails h n a b below =
+      let up : i + 1 ≤ (wide_count 16 s starting).value = rw (← a) (omega arith) in
+      let fails : registries_pass s (wide_count 16 s starting).next (i + 1) ≡ false = rw (← a, ← b) (tested ∙ h) in
+      stays-failed s (wide_count 16 s starting).next (i + 1) (wide_count 16 s starting).value up fails
 
 -- and behind the last
-pub section-end : (s : List ℕ) (n : Read ℕ) → n ≡ wide_count 16 s starting → (i : ℕ) → i ≡ n.value → (d : Cursor) (l : List Said) (ok : Bool) → Turned s n.next i d l ok → (ok ≡ section_passes s) × ((l ≡ map id_in (read_registries s starting).value) × (d ≡ (read_registries s starting).next))
+pub section-end : (s : List ℕ) (n : Read ℕ) → n ≡ wide_count 16 s starting → (i : ℕ) → i ≡ n.value → (d : Cursor) (l : List Said) → Turned s n.next i d l → Passed s l d
 unfolding section_passes read_registries wide_section
-section-end s n q i e d l ok t = (rw (← q, ← e) t.pass, (rw (← q, ← e) t.ids, rw (← q, ← e) t.at))
+section-end s n q i e d l t = record { passes = rw (← q, ← e) t.pass; listed = rw (← q, ← e) t.ids; behind = rw (← q, ← e) t.at }
 
 held-layouts : (gs : List Registry) → all keeps_layout (map held_now gs) ≡ true
 unfolding all

@@ -1,1 +1,2 @@
+pub use Rattle.ledger_image.specs.Refusals
 pub mod Checks

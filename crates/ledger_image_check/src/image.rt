@@ -2,32 +2,24 @@
 ghost use Rattle.std.specs.Prelude.{◌≡◌};
 ghost use Rattle.ledger_image_check.specs.Checks.{view_checked, checked_of};
 
-use crate::Checked;
 use crate::registries::check_registries;
+use crate::{Checked, Malformed};
 use ledger_image::image::read_count;
 use ledger_image_rows_check::rows::check_rows;
 
-pub fn check_image(image: &[u8]) -> Checked
+pub fn check_image(image: &[u8]) -> Result<Checked, Malformed>
     ensures { view_checked result ≡ checked_of image.now }
 {
-    let registries = check_registries(image);
+    let registries = check_registries(image)?;
     let section = read_count(registries.next, image, 256);
     let rows_at = section.next.at;
     let rows = section.value;
-    if section.next.ok & registries.ok {
-        if check_rows(image, rows_at, rows, &registries.ids) {
-            return Checked {
-                ok: true,
-                registries: registries.ids.size(),
-                rows_at,
-                rows,
-            };
-        }
+    if section.next.ok && check_rows(image, rows_at, rows, &registries.ids) {
+        return Ok(Checked {
+            registries: registries.ids.size(),
+            rows_at,
+            rows,
+        });
     }
-    Checked {
-        ok: false,
-        registries: 0,
-        rows_at: 0,
-        rows: 0,
-    }
+    Err(Malformed)
 }

@@ -6,8 +6,8 @@ ghost use Rattle.ledger_standing.specs.Lookups.{view_looked_up, key_pair};
 use cesr::Said;
 use ledger_check::check::sound;
 use ledger_rows::rows::{find_at, read_row};
-use ledger_standing::LookedUp;
 use ledger_standing::lookup::standing;
+use ledger_standing::{Malformed, Standing};
 use registry_state::RegistryState;
 use registry_state_credential::CredentialState;
 
@@ -19,7 +19,7 @@ pub fn look_up<'a>(
     row_count: usize,
     registry: Said,
     credential: Said,
-) -> LookedUp
+) -> Result<Standing, Malformed>
     ensures { view_looked_up result ≡ look_up (lent_ledger registries.now registry_count rows.now row_count) (key_pair registry credential) }
 {
     let ok = sound(registries, registry_count, rows, row_count);

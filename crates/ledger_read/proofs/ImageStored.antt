@@ -1,9 +1,10 @@
 -- What the two loops leave, where they store what the check of an image lets them store.
 --     into-held         an image that is held came into slices of 16 registries and 256 rows
 --     few-rows          and has at most 256 rows
---     Done, done        the counts, the rows and the registries afterwards are those that the answer to the image asks for
+--     read-stopped      where there is no plan the image is refused, and what is as it was is what that asks for
+--     read-done         else the counts, the rows and the registries afterwards are those of the image
+use Rattle.std.specs.Prelude.{Result, Ok, Err}
 use Prim.Native.Nat.{ℕ, ◌+◌, ◌≤◌, min}
-use native.Mathlib.Nat.{zero-min}
 use native.Mathlib.Omega.{arith}
 use mathlib.Core.Path.{◌≡◌, refl, sym, ap, subst, ◌∙◌}
 use mathlib.Core.Bool.{Bool, true, false, cond, ◌&&◌, false≢true}
@@ -25,9 +26,12 @@ use Rattle.ledger_row_image.specs.Images.ImageAnswer.{refused, held}
 use Rattle.ledger_registry_image.specs.RowImages.{rows_from}
 use Rattle.ledger_registry_image.specs.RegistrySections.{registries_in, Stored}
 use Rattle.ledger_registry_image.proofs.SectionHeld.{stored-held}
-use Rattle.ledger_image_check.specs.Checks.{ImageCheck, checked_by, checked_of}
+use Rattle.ledger_image_check.specs.Checks.{ImageCheck, view_checked, checked_by, checked_of}
 use Rattle.ledger_image_check.proofs.Reread.{Reread, reread}
-use Rattle.ledger_read.specs.ImageReads.{plan_of, answer_by, counts_of, counts_after, rows_after, Placed, RegistriesAfter}
+use Rattle.ledger_image_check.specs.declared.Malformed.{Malformed}
+use Rattle.ledger_image_check.specs.declared.Checked.{Checked}
+use Rattle.ledger_read.specs.declared.ImageRead.{ImageRead}
+use Rattle.ledger_read.specs.ImageReads.{plan_of, Placed, ReadInto}
 
 -- ---- an image that is read
 registries_of : ImageAnswer → List Registry
@@ -89,25 +93,9 @@ module _ (s : List ℕ) (gs : List Registry) (ws : List CredentialState) (e : im
   read_whole = again.registries-read
 
 -- ---- what is left where the two loops have stored what the plan has
-pub record Done (a : ImageAnswer) (p : ImageCheck) (gs gs1 : List RegistryState) (ws ws1 : List CredentialState) : Type 0 where
-  pub number : (m n : ℕ) → (answer_by p m n).number ≡ image_number a
-  pub counts : (m n : ℕ) → counts_of (answer_by p m n) ≡ counts_after a m n
-  pub rows : ws1 ≡ rows_after a ws
-  pub registries : RegistriesAfter a gs gs1
-  pub long : length gs1 ≡ length gs
-
 module _ (s : List ℕ) (gs : List RegistryState) (ws : List CredentialState) where
   abbrev start : ℕ
   start = (read_registries s starting).next.at + 2
-
-  nothing_stored : (gs1 : List RegistryState) → Stored s 0 gs gs1 → gs1 ≡ gs
-  nothing_stored gs1 st = rw (zero-min (length gs)) at st.rest
-
-  done_refused : (gs1 : List RegistryState) → Stored s 0 gs gs1 → Done refused (checked_by start refused) gs gs1 ws (sets ws 0 (rows_from s 0 0))
-  unfolding answer_by rows_from times
-  done_refused gs1 st =
-      let e = nothing_stored gs1 st in
-      record { number = λ m n. refl; counts = λ m n. refl; rows = refl; registries = e; long = st.long }
 
   placed-all : (gs' : List Registry) (ws' : List CredentialState) → image_of s ≡ held gs' ws' → length gs ≡ 16 → (gs1 : List RegistryState) → Stored s (length gs') gs gs1 → Placed gs' gs gs1
   placed-all gs' ws' e l gs1 st =
@@ -123,21 +111,36 @@ module _ (s : List ℕ) (gs : List RegistryState) (ws : List CredentialState) wh
         long = st.long;
       }
 
-  done_held : (gs' : List Registry) (ws' : List CredentialState) → image_of s ≡ held gs' ws' → length gs ≡ 16 → (gs1 : List RegistryState) → Stored s (length gs') gs gs1 → Done (held gs' ws') (checked_by start (held gs' ws')) gs gs1 ws (sets ws 0 (rows_from s start (length ws')))
-  unfolding answer_by
-  done_held gs' ws' e l gs1 st =
-      let p = placed-all gs' ws' e l gs1 st in
-      record { number = λ m n. refl; counts = λ m n. refl; rows = ap (sets ws 0) (rows-again s gs' ws' e); registries = p; long = p.long }
-
-  pub done : (p : ImageCheck) → p ≡ plan_of (length gs) (length ws) s → (gs1 : List RegistryState) → Stored s p.registries gs gs1 → Done (image_into (length gs) (length ws) s) p gs gs1 ws (sets ws 0 (rows_from s p.rows_at p.rows))
-  unfolding plan_of image_into
-  done p h gs1 st = go (image_into (length gs) (length ws) s) refl
+  pub read-stopped : (r : Result Checked Malformed) → view_checked r ≡ plan_of (length gs) (length ws) s → (e : Malformed) → r ≡ Err e → ReadInto s gs gs ws ws (Err e)
+  unfolding plan_of
+  read-stopped r h e x = go (image_into (length gs) (length ws) s) refl
     where
-      go : (a : ImageAnswer) → image_into (length gs) (length ws) s ≡ a → Done (image_into (length gs) (length ws) s) p gs gs1 ws (sets ws 0 (rows_from s p.rows_at p.rows))
-      go refused e =
-          let k : p ≡ checked_by start refused = h ∙ ap (checked_by start) e in
-          rw (e, k) (done_refused gs1 (rw k at st))
-      go (held gs' ws') e =
-          let k : p ≡ checked_by start (held gs' ws') = h ∙ ap (checked_by start) e in
-          let t = into-held (length gs) (length ws) s gs' ws' e in
-          rw (e, k) (done_held gs' ws' t.0 t.1.0 gs1 (rw k at st))
+      go : (a : ImageAnswer) → image_into (length gs) (length ws) s ≡ a → ReadInto s gs gs ws ws (Err e)
+      go refused q = record { number = rw q; counts = λ m n. rw q; rows = rw q; registries = rw q refl }
+      go (held gs' ws') q = absurd (false≢true (ap (λ (k : ImageCheck). k.ok) (ap view_checked (sym x) ∙ h ∙ ap (checked_by start) q)))
+
+  module _ (r : Result Checked Malformed) (h : view_checked r ≡ plan_of (length gs) (length ws) s) (p : Checked) (x : r ≡ Ok p) (gs1 : List RegistryState) (st : Stored s p.registries gs gs1) where
+    abbrev read : ImageRead
+    read = record { registry_count = p.registries; row_count = p.rows }
+
+    planned : (a : ImageAnswer) → image_into (length gs) (length ws) s ≡ a → view_checked (Ok p) ≡ checked_by start a
+    unfolding plan_of
+    planned a q = ap view_checked (sym x) ∙ h ∙ ap (checked_by start) q
+
+    pub read-done : ReadInto s gs gs1 ws (sets ws 0 (rows_from s p.rows_at p.rows)) (Ok read)
+    read-done = go (image_into (length gs) (length ws) s) refl
+      where
+        go : (a : ImageAnswer) → image_into (length gs) (length ws) s ≡ a → ReadInto s gs gs1 ws (sets ws 0 (rows_from s p.rows_at p.rows)) (Ok read)
+        go refused q = absurd (false≢true (sym (ap (λ (k : ImageCheck). k.ok) (planned refused q))))
+        go (held gs' ws') q =
+            let k = planned (held gs' ws') q in
+            let m : p.registries ≡ length gs' = ap (λ (z : ImageCheck). z.registries) k in
+            let n : p.rows ≡ length ws' = ap (λ (z : ImageCheck). z.rows) k in
+            let f : p.rows_at ≡ start = ap (λ (z : ImageCheck). z.rows_at) k in
+            let t = into-held (length gs) (length ws) s gs' ws' q in
+            record {
+              number = rw q;
+              counts = λ _ _. rw (q, m, n);
+              rows = rw (q, f, n, rows-again s gs' ws' t.0);
+              registries = rw q (placed-all gs' ws' t.0 t.1.0 gs1 (rw m at st));
+            }

@@ -1,9 +1,9 @@
 -- The ledger that is held once an image was read, by what `read_image` ensures.
---     ReadInto        the clauses that it ensures
 --     read-ledger     where the number is 0 it is the ledger of the image
 --     read-refused    where it is not, the one that was handed in
 --     read_back       the image of a sound ledger is read as that ledger
 --     read_again      an image that was read writes again to the same bytes
+use Rattle.std.specs.Prelude.{Result}
 use Prim.Native.Nat.{ℕ, ◌+◌, ◌≤◌}
 use native.Mathlib.Omega.{arith}
 use mathlib.Core.Path.{◌≡◌, refl, ap, ◌∙◌}
@@ -21,15 +21,10 @@ use Rattle.ledger_row_image.specs.Images.{ImageAnswer, image_number, ledger_of, 
 use Rattle.ledger_row_image.specs.Images.ImageAnswer.{refused, held}
 use Rattle.ledger_row_image.proofs.ImageRounds.{image-back, image-again}
 use Rattle.ledger_read.specs.declared.ImageRead.{ImageRead}
-use Rattle.ledger_read.specs.ImageReads.{Counts, counts_of, counts_after, rows_after, Placed, RegistriesAfter}
+use Rattle.ledger_image_check.specs.Refusals.{refusal_of}
+use Rattle.ledger_image_check.specs.declared.Malformed.{Malformed}
+use Rattle.ledger_read.specs.ImageReads.{Counts, counts_of, counts_after, rows_after, Placed, ReadInto}
 use Rattle.ledger_read.proofs.ImageStored.{into-held, few-rows}
-
--- The image s, the slices before and after, the counts that are handed in, and the answer.
-pub record ReadInto (s : List ℕ) (gs gs1 : List RegistryState) (ws ws1 : List CredentialState) (m n : ℕ) (r : ImageRead) : Type 0 where
-  pub number : r.number ≡ image_number (image_into (length gs) (length ws) s)
-  pub counts : counts_of r ≡ counts_after (image_into (length gs) (length ws) s) m n
-  pub rows : ws1 ≡ rows_after (image_into (length gs) (length ws) s) ws
-  pub registries : RegistriesAfter (image_into (length gs) (length ws) s) gs gs1
 
 -- The ledger of an image.
 pub record Image (s : List ℕ) (l : Ledger) : Type 0 where
@@ -46,10 +41,10 @@ rows-first ws ws' h =
 not-both : (n : ℕ) → n ≡ 0 → n ≡ 1 → ⊥
 not-both n a b = omega (arith, a, b)
 
-module _ (s : List ℕ) (gs gs1 : List RegistryState) (ws ws1 : List CredentialState) (m n : ℕ) (r : ImageRead) (h : ReadInto s gs gs1 ws ws1 m n r) where
+module _ (s : List ℕ) (gs gs1 : List RegistryState) (ws ws1 : List CredentialState) (m n : ℕ) (r : Result ImageRead Malformed) (h : ReadInto s gs gs1 ws ws1 r) where
   -- what is held afterwards
   abbrev pub after : Ledger
-  after = lent_ledger gs1 r.registry_count ws1 r.row_count
+  after = let k = counts_of r m n in lent_ledger gs1 k.registries ws1 k.rows
 
   abbrev answer : ImageAnswer
   answer = image_into (length gs) (length ws) s
@@ -58,40 +53,40 @@ module _ (s : List ℕ) (gs gs1 : List RegistryState) (ws ws1 : List CredentialS
   unfolding lent_ledger ledger_of
   held_after gs' ws' e =
       let t = into-held (length gs) (length ws) s gs' ws' e in
-      let c : counts_of r ≡ record { registries = length gs'; rows = length ws' } = h.counts ∙ ap (λ (a : ImageAnswer). counts_after a m n) e in
-      let i : r.registry_count ≡ length gs' = ap (λ (k : Counts). k.registries) c in
-      let j : r.row_count ≡ length ws' = ap (λ (k : Counts). k.rows) c in
+      let c : counts_of r m n ≡ record { registries = length gs'; rows = length ws' } = h.counts m n ∙ ap (λ (a : ImageAnswer). counts_after a m n) e in
+      let i : (counts_of r m n).registries ≡ length gs' = ap (λ (k : Counts). k.registries) c in
+      let j : (counts_of r m n).rows ≡ length ws' = ap (λ (k : Counts). k.rows) c in
       let p : Placed gs' gs gs1 = rw e at h.registries in
       let w : ws1 ≡ sets ws 0 ws' = h.rows ∙ ap (λ (a : ImageAnswer). rows_after a ws) e in
       let slots : length gs1 ≡ 16 = p.long ∙ t.1.0 in
       let row-slots : length ws1 ≡ 256 = ap length w ∙ length-sets ws 0 ws' ∙ t.1.1 in
-      let stored : map held_of (take r.registry_count gs1) ≡ map held_now gs' = ap (λ (k : ℕ). map held_of (take k gs1)) i ∙ p.stored in
-      let rows : take r.row_count ws1 ≡ ws' = rw (j, w) (rows-first ws ws' (omega (arith, few-rows s gs' ws' t.0, t.1.1))) in
+      let stored : map held_of (take (counts_of r m n).registries gs1) ≡ map held_now gs' = ap (λ (k : ℕ). map held_of (take k gs1)) i ∙ p.stored in
+      let rows : take (counts_of r m n).rows ws1 ≡ ws' = rw (j, w) (rows-first ws ws' (omega (arith, few-rows s gs' ws' t.0, t.1.1))) in
       λ k. record { registry_slots = slots k; registry_count = i k; registries = stored k; row_slots = row-slots k; row_count = j k; rows = rows k }
 
-  pub read-ledger : r.number ≡ 0 → Image s after
+  pub read-ledger : (refusal_of r) ≡ 0 → Image s after
   read-ledger z = go answer refl
     where
       go : (a : ImageAnswer) → answer ≡ a → Image s after
-      go refused e = absurd (not-both r.number z (h.number ∙ ap image_number e))
+      go refused e = absurd (not-both (refusal_of r) z (h.number ∙ ap image_number e))
       go (held gs' ws') e =
           record { registries = gs'; rows = ws'; image = (into-held (length gs) (length ws) s gs' ws' e).0; ledger = held_after gs' ws' e }
 
-  pub read-refused : r.number ≡ 1 → after ≡ lent_ledger gs m ws n
+  pub read-refused : (refusal_of r) ≡ 1 → after ≡ lent_ledger gs m ws n
   read-refused z = go answer refl
     where
       go : (a : ImageAnswer) → answer ≡ a → after ≡ lent_ledger gs m ws n
       go refused e =
-          let c : counts_of r ≡ record { registries = m; rows = n } = h.counts ∙ ap (λ (a : ImageAnswer). counts_after a m n) e in
-          let i : r.registry_count ≡ m = ap (λ (k : Counts). k.registries) c in
-          let j : r.row_count ≡ n = ap (λ (k : Counts). k.rows) c in
+          let c : counts_of r m n ≡ record { registries = m; rows = n } = h.counts m n ∙ ap (λ (a : ImageAnswer). counts_after a m n) e in
+          let i : (counts_of r m n).registries ≡ m = ap (λ (k : Counts). k.registries) c in
+          let j : (counts_of r m n).rows ≡ n = ap (λ (k : Counts). k.rows) c in
           let g : gs1 ≡ gs = rw e at h.registries in
           let w : ws1 ≡ ws = h.rows ∙ ap (λ (a : ImageAnswer). rows_after a ws) e in
           λ k. lent_ledger (g k) (i k) (w k) (j k)
-      go (held gs' ws') e = absurd (not-both r.number (h.number ∙ ap image_number e) z)
+      go (held gs' ws') e = absurd (not-both (refusal_of r) (h.number ∙ ap image_number e) z)
 
   -- A ledger that was written is read, into slices of 16 registries and 256 rows, as that ledger.
-  pub read_back : (l : Ledger) → sound l ≡ true → Ranged l → s ≡ ledger_bytes l → length gs ≡ 16 → length ws ≡ 256 → (r.number ≡ 0) × (after ≡ l)
+  pub read_back : (l : Ledger) → sound l ≡ true → Ranged l → s ≡ ledger_bytes l → length gs ≡ 16 → length ws ≡ 256 → ((refusal_of r) ≡ 0) × (after ≡ l)
   unfolding image_into
   read_back l sl rl e a b =
       let back = image-back l sl rl in
@@ -99,7 +94,7 @@ module _ (s : List ℕ) (gs gs1 : List RegistryState) (ws ws1 : List CredentialS
       (h.number ∙ ap image_number into, held_after (states_of l) l.rows into ∙ back.1)
 
   -- An image that was read writes again to the same bytes.
-  pub read_again : Bytes s → r.number ≡ 0 → ledger_bytes after ≡ s
+  pub read_again : Bytes s → (refusal_of r) ≡ 0 → ledger_bytes after ≡ s
   read_again b z =
       let i = read-ledger z in
       ap ledger_bytes i.ledger ∙ image-again s i.registries i.rows b i.image

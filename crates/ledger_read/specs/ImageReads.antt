@@ -1,5 +1,5 @@
 -- What reading an image into lent slices leaves: the counts, the rows and the registries (docs/RULES.md, "Image").
-use Rattle.std.specs.Prelude.{ℕ, ◌+◌, ◌≡◌, cond, List, map, length, take, drop}
+use Rattle.std.specs.Prelude.{ℕ, ◌+◌, ◌≡◌, List, map, length, take, drop, Result, Ok, Err}
 use Rattle.std.proofs.lemmas.List.Edits.{sets}
 use Rattle.codec_cursor.specs.Readers.{starting}
 use Rattle.registry_state.specs.States.{Registry}
@@ -7,27 +7,25 @@ use Rattle.registry_state.specs.declared.RegistryState.{RegistryState}
 use Rattle.registry_state_credential.specs.declared.CredentialState.{CredentialState}
 use Rattle.ledger_registry_image.specs.Ledgers.{held_of}
 use Rattle.ledger_registry_image.specs.Steps.{held_now}
-use Rattle.ledger_row_image.specs.Images.{ImageAnswer, read_registries, image_into}
+use Rattle.ledger_row_image.specs.Images.{ImageAnswer, image_number, read_registries, image_into}
 use Rattle.ledger_row_image.specs.Images.ImageAnswer.{refused, held}
 use Rattle.ledger_image_check.specs.Checks.{ImageCheck, checked_by}
+use Rattle.ledger_image_check.specs.Refusals.{refusal_of}
+use Rattle.ledger_image_check.specs.declared.Malformed.{Malformed}
 use Rattle.ledger_read.specs.declared.ImageRead.{ImageRead}
 
 -- what is to be stored in slices of these lengths: how many registries, how many rows, and the byte at which the first row stands
 unfoldable pub plan_of : ℕ → ℕ → List ℕ → ImageCheck
 plan_of registry_slots row_slots s = checked_by ((read_registries s starting).next.at + 2) (image_into registry_slots row_slots s)
 
--- the answer, once that is stored: after a refusal the counts that were handed in
-unfoldable pub answer_by : ImageCheck → ℕ → ℕ → ImageRead
-answer_by k m n =
-    cond k.ok (record { number = 0; registry_count = k.registries; row_count = k.rows }) (record { number = 1; registry_count = m; row_count = n })
-
 -- the counts of what is held: after a refusal those that were handed in
 pub record Counts : Type 0 where
   pub registries : ℕ
   pub rows : ℕ
 
-abbrev pub counts_of : ImageRead → Counts
-counts_of r = record { registries = r.registry_count; rows = r.row_count }
+abbrev pub counts_of : Result ImageRead Malformed → ℕ → ℕ → Counts
+counts_of (Ok r) m n = record { registries = r.registry_count; rows = r.row_count }
+counts_of (Err e) m n = record { registries = m; rows = n }
 
 abbrev pub counts_after : ImageAnswer → ℕ → ℕ → Counts
 counts_after refused m n = record { registries = m; rows = n }
@@ -48,3 +46,10 @@ pub record Placed (gs' : List Registry) (before after : List RegistryState) : Ty
 abbrev pub RegistriesAfter : ImageAnswer → List RegistryState → List RegistryState → Type 0
 RegistriesAfter refused before after = after ≡ before
 RegistriesAfter (held gs' ws') before after = Placed gs' before after
+
+-- What reading an image s answers and leaves of slices: the number, and of what is held then the counts, the rows and the registries. The counts of before are any.
+pub record ReadInto (s : List ℕ) (gs gs1 : List RegistryState) (ws ws1 : List CredentialState) (r : Result ImageRead Malformed) : Type 0 where
+  pub number : refusal_of r ≡ image_number (image_into (length gs) (length ws) s)
+  pub counts : (m n : ℕ) → counts_of r m n ≡ counts_after (image_into (length gs) (length ws) s) m n
+  pub rows : ws1 ≡ rows_after (image_into (length gs) (length ws) s) ws
+  pub registries : RegistriesAfter (image_into (length gs) (length ws) s) gs gs1

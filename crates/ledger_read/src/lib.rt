@@ -3,10 +3,11 @@
 
 pub mod read;
 
-// What reading an image answers: 0 or the refusal 1, and the counts of what is held afterwards: those that were handed in after a refusal.
+pub use ledger_image_check::Malformed;
+
+// How many registries and rows an image had, which are those that are held then. After a refusal the counts of what is held are those of before.
 #[derive(Clone, Copy)]
 pub struct ImageRead {
-    pub number: u8,
     pub registry_count: usize,
     pub row_count: usize,
 }

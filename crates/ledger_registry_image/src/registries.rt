@@ -23,10 +23,8 @@ pub fn registries_size(registries: &[RegistryState], count: usize) -> usize
 {
     let n = section_count(count, registries.len());
     let mut size = 2;
-    let mut i = 0;
-    while i < n {
+    for i in 0..n {
         size = size_with(size, registries[i]);
-        i += 1;
     }
     size
 }
@@ -47,10 +45,8 @@ pub fn write_registries(registries: &[RegistryState], count: usize, out: &mut [u
     let size = registries_size(registries, count);
     let n = write_head(out, count, registries.len(), size);
     let mut at = 2;
-    let mut i = 0;
-    while i < n {
+    for i in 0..n {
         at = write_next(out, at, registries[i]);
-        i += 1;
     }
 }
 
@@ -60,11 +56,9 @@ pub fn store_registries(image: &[u8], count: usize, registries: &mut [RegistrySt
 {
     let n = count.min(registries.len());
     let mut c = Cursor { ok: true, at: 2 };
-    let mut i = 0;
-    while i < n {
+    for i in 0..n {
         let r = read_next(c, image);
         registries[i] = r.value;
         c = r.next;
-        i += 1;
     }
 }

@@ -17,13 +17,9 @@ pub fn write_rows(rows: &[CredentialState], count: usize, out: &mut [u8])
         return;
     }
     write_count(out, 0, count);
-    let mut at = 2;
-    let mut i = 0;
-    while i < count {
+    for i in 0..count {
         let row = rows[i];
-        row.write(out, at);
-        at += 115;
-        i += 1;
+        row.write(out, 2 + 115 * i);
     }
 }
 
@@ -32,11 +28,9 @@ pub fn store_rows(image: &[u8], at: usize, count: usize, rows: &mut [CredentialS
     ensures { rows.new ≡ sets rows.old 0 (rows_from image.now at count) }
 {
     let mut c = Cursor { ok: true, at };
-    let mut i = 0;
-    while i < count {
+    for i in 0..count {
         let read = CredentialState::read(c, image);
         store_row(rows, i, read.value);
         c = read.next;
-        i += 1;
     }
 }

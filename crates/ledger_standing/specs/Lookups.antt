@@ -1,19 +1,27 @@
 -- The look-up of a lent ledger (docs/RULES.md, "Look-up", "Reading rules").
-use Rattle.std.specs.Prelude.{ℕ, Bool, cond, ◌&&◌, ltb}
+use Rattle.std.specs.Prelude.{ℕ, Bool, cond, ◌&&◌, ltb, Result, Ok, Err}
 use Rattle.std.proofs.Math.Option.{none, some}
 use Rattle.cesr.specs.declared.Said.{Said}
 use Rattle.registry_state_credential.specs.declared.CredentialState.{CredentialState}
 use Rattle.ledger_step.specs.Pairs.{Pair}
 use Rattle.ledger_step.specs.Ledgers.{LookedUp, standing_of, well_pair}
-use Rattle.ledger_standing.specs.declared.LookedUp as Code
+use Rattle.ledger_step.specs.declared.Malformed.{Malformed}
+use Rattle.ledger_standing.specs.declared.Standing.{Standing}
+use Rattle.ledger_standing.specs.declared.Standing.TheVariants.{Issued, Revoked, Unknown}
 
 -- a key, from its two parts
 abbrev pub key_pair : Said → Said → Pair
 key_pair registry credential = record { registry = registry; credential = credential }
 
--- what the code's look-up answers stands for
-abbrev pub view_looked_up : Code.LookedUp → LookedUp
-view_looked_up r = record { refusal = r.refusal; standing = r.standing }
+abbrev pub standing_number : Standing → ℕ
+standing_number Issued = 1
+standing_number Revoked = 2
+standing_number Unknown = 3
+
+-- what the code's look-up answers stands for; after a refusal there is no standing
+abbrev pub view_looked_up : Result Standing Malformed → LookedUp
+view_looked_up (Ok s) = record { refusal = 0; standing = standing_number s }
+view_looked_up (Err e) = record { refusal = 1; standing = 0 }
 
 -- what is answered where a search for the key ended at a place, and this row stands there
 unfoldable pub looked_up_of : Bool → ℕ → ℕ → CredentialState → Pair → LookedUp

@@ -2,10 +2,14 @@
 #![tactic(auto)]
 
 pub mod lookup;
+pub mod number;
 
-// What a look-up answers: 0 or the refusal 1, and 1 Issued, 2 Revoked, 3 Unknown, or 0 after a refusal.
-#[derive(Clone, Copy)]
-pub struct LookedUp {
-    pub refusal: u8,
-    pub standing: u8,
+pub use ledger_step::Malformed;
+
+// What a look-up answers of a credential.
+#[derive(Clone, Copy, PartialEq, Eq)]
+pub enum Standing {
+    Issued,
+    Revoked,
+    Unknown,
 }

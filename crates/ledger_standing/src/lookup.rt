@@ -1,10 +1,10 @@
 // What a look-up answers, from the row that a search for the key found (docs/RULES.md, "Look-up").
-ghost use Rattle.std.specs.Prelude.{◌≡◌, ◌&&◌, eqb, ltb};
+ghost use Rattle.std.specs.Prelude.{◌≡◌, ◌&&◌, eqb};
 ghost use Rattle.cesr_sn.specs.Numbers.{value};
 ghost use Rattle.ledger_step.specs.Ledgers.{well_pair};
 ghost use Rattle.ledger_standing.specs.Lookups.{view_looked_up, key_pair, looked_up_of};
 
-use crate::LookedUp;
+use crate::{Malformed, Standing};
 use cesr::Said;
 use cesr_sn::Sn;
 use registry_state_credential::CredentialState;
@@ -16,12 +16,6 @@ fn has_standing(ok: bool, registry: Said, credential: Said) -> bool
     ok & (registry.0.is_said() & credential.0.is_said())
 }
 
-fn is_below(at: usize, count: usize) -> bool
-    ensures { result ≡ ltb at count }
-{
-    at < count
-}
-
 // A credential is issued at sn 0; each later sn is a revocation's.
 fn is_issued(row: CredentialState) -> bool
     ensures { result ≡ eqb (value row.sn) 0 }
@@ -31,6 +25,7 @@ fn is_issued(row: CredentialState) -> bool
 }
 
 // What the row at the place says where a search for the key ended. Past the last row there is none.
+#[tactic(auto, unfolding(crate::specs::Lookups::looked_up_of))]
 pub fn standing(
     ok: bool,
     at: usize,
@@ -38,29 +33,17 @@ pub fn standing(
     row: CredentialState,
     registry: Said,
     credential: Said,
-) -> LookedUp
+) -> Result<Standing, Malformed>
     ensures { view_looked_up result ≡ looked_up_of ok at row_count row (key_pair registry credential) }
 {
-    if has_standing(ok, registry, credential) {
-        if is_below(at, row_count) {
-            if is_issued(row) {
-                return LookedUp {
-                    refusal: 0,
-                    standing: 1,
-                };
-            }
-            return LookedUp {
-                refusal: 0,
-                standing: 2,
-            };
-        }
-        return LookedUp {
-            refusal: 0,
-            standing: 3,
-        };
+    if !has_standing(ok, registry, credential) {
+        return Err(Malformed);
     }
-    LookedUp {
-        refusal: 1,
-        standing: 0,
+    if at >= row_count {
+        return Ok(Standing::Unknown);
     }
+    if is_issued(row) {
+        return Ok(Standing::Issued);
+    }
+    Ok(Standing::Revoked)
 }

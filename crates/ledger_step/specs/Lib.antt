@@ -4,5 +4,6 @@ pub use Rattle.registry_laws.specs.RegistryFolds
 pub mod Ledgers
 pub mod OrderFreedom
 pub mod Orders
+pub mod Refusals
 pub mod Steps
 pub mod Tables

@@ -3,3 +3,7 @@
 #![tactic(auto)]
 
 pub mod slices;
+
+// Why a look-up or an image is turned down, where there is one reason only: the refusal 1.
+#[derive(Clone, Copy, PartialEq, Eq)]
+pub struct Malformed;

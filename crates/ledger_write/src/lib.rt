@@ -3,4 +3,4 @@
 
 pub mod write;
 
-pub use ledger_written::Written;
+pub use ledger_written::WriteError;

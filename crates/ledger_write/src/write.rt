@@ -7,8 +7,8 @@ ghost use Rattle.ledger_written.specs.Writes.{view_written};
 use ledger_check::check::sound;
 use ledger_registry_image::registries::{registries_size, write_registries};
 use ledger_row_image::row_image::write_rows;
-use ledger_written::Written;
-use ledger_written::answer::{is_refused, writing};
+use ledger_written::WriteError;
+use ledger_written::answer::writing;
 use registry_state::RegistryState;
 use registry_state_credential::CredentialState;
 
@@ -19,16 +19,13 @@ pub fn write_image<'a>(
     rows: &'a [CredentialState],
     row_count: usize,
     out: &mut [u8],
-) -> Written
+) -> Result<usize, WriteError>
     ensures { view_written result out.new ≡ written_of (lent_ledger registries.now registry_count rows.now row_count) out.old }
 {
     let ok = sound(registries, registry_count, rows, row_count);
     let first = registries_size(registries, registry_count);
-    let answer = writing(ok, first, row_count, out.len());
-    if is_refused(answer) {
-        return answer;
-    }
+    let size = writing(ok, first, row_count, out.len())?;
     write_registries(registries, registry_count, out);
     write_rows(rows, row_count, &mut out[first..]);
-    answer
+    Ok(size)
 }

@@ -1,17 +1,18 @@
 -- The image of a ledger, as it is written: the section of the registries, then that of the credentials in the part of the buffer behind it.
 --     first, answer, headed, rest, part, last    the bytes of the first section, what is answered, the buffer behind the first section's writing, the part that is lent, and the buffer at the end
---     refused_all    after a refusal the buffer is as it was
---     written_all    else it has the image, and behind it the bytes that were there
---     first_fits, headed-long, part-long, last-long    the lengths
+--     refused-as      after a refusal the buffer is as it was
+--     rest-is-there   else there is a part behind the first section
+--     written-as      and in the end the buffer has the image, and behind it the bytes that were there
+use Rattle.std.specs.Prelude.{Result, Ok, Err}
 use Prim.Native.Nat.{ℕ, ◌+◌, ◌-◌, ◌*◌, ◌≤◌}
 use mathlib.Core.Path.{◌≡◌, refl, ap, sym, ◌∙◌}
-use mathlib.Core.Bool.{Bool, true, false, true≢false}
+use mathlib.Core.Bool.{Bool, true, false}
 use mathlib.Core.List.{List, [], ◌∷◌, ◌++◌, map}
 use native.Mathlib.Nat.{min-eq_left, zero-add}
 use native.Mathlib.Omega.{arith}
 use borrow.Author.Tests.{leb-true, eqb-true}
 use borrow.Rule.Slice.PartMut.{mid_of, put_mid, mid_len}
-use lib.Dec.{eqb, leb}
+use lib.Dec.{leb}
 use lib.ListN.{length, take, length-append}
 use lib.Seq.{sets, length-sets, length-take-le}
 use Rattle.laws.specs.Room.{put}
@@ -29,7 +30,7 @@ use Rattle.ledger_sections.specs.RegistrySections.{section_of}
 use Rattle.ledger_sections.specs.RowImages.{written_rows}
 use Rattle.ledger_sections.proofs.RowSections.{written-section}
 use Rattle.ledger_written.specs.Writes.{image_size, answer_of, view_written, with_sections}
-use Rattle.ledger_written.specs.declared.Written as Code
+use Rattle.ledger_written.specs.declared.WriteError.{WriteError}
 
 states-are : (gs : List RegistryState) → map state_of (map held_of gs) ≡ map view_registry gs
 states-are [] = refl
@@ -55,7 +56,7 @@ module _ (gs : List RegistryState) (m : ℕ) (ws : List CredentialState) (n : �
   abbrev enough : Bool
   enough = leb (image_size first n) (length bs)
 
-  abbrev pub answer : Code.Written
+  abbrev pub answer : Result ℕ WriteError
   answer = answer_of (sound ledger) enough (image_size first n)
 
   -- the buffer when the first section is written, the part behind it, and the buffer when the second is written to that part
@@ -71,7 +72,7 @@ module _ (gs : List RegistryState) (m : ℕ) (ws : List CredentialState) (n : �
   abbrev pub last : List ℕ
   last = put_mid first rest headed (written_rows ws n part)
 
-  pub headed-long : length headed ≡ length bs
+  headed-long : length headed ≡ length bs
   headed-long = length-put bs 0 (section_of gs m)
 
   -- a ledger that keeps to the reading rules
@@ -132,38 +133,55 @@ module _ (gs : List RegistryState) (m : ℕ) (ws : List CredentialState) (n : �
       last-is = last-sections ∙ sections-are
 
   -- where nothing is refused, both tests hold
-  both_hold : (t u : Bool) → eqb (answer_of t u (image_size first n)).number 0 ≡ true → (t ≡ true) × (u ≡ true)
+  both_hold : (t u : Bool) (k : ℕ) → answer_of t u (image_size first n) ≡ Ok k → (t ≡ true) × (u ≡ true)
   unfolding answer_of
-  both_hold true true h = (refl, refl)
-  both_hold true false h = (refl, h)
-  both_hold false true h = (h, refl)
-  both_hold false false h = (h, h)
+  both_hold true true k h = (refl, refl)
+  both_hold true false k h = cc
+  both_hold false true k h = cc
+  both_hold false false k h = cc
 
-  module _ (taken : eqb answer.number 0 ≡ true) where
+  module _ (size : ℕ) (taken : answer ≡ Ok size) where
     holds-both : (sound ledger ≡ true) × (enough ≡ true)
-    holds-both = both_hold (sound ledger) enough taken
+    holds-both = both_hold (sound ledger) enough size taken
 
     room-is : image_size first n ≤ length bs
     room-is = leb-true (image_size first n) (length bs) holds-both.1
 
-    pub first_fits : first ≤ length bs
+    first_fits : first ≤ length bs
     first_fits = omega (arith, room-is)
 
-    pub part-long : length part ≡ rest
-    part-long = part-counted holds-both.0 room-is
-
-    pub last-long : length last ≡ length bs
-    last-long = ap (λ (l : List ℕ). length l) (last-is holds-both.0 room-is) ∙ length-sets bs 0 (ledger_bytes ledger)
-
-    pub written_all : view_written answer last ≡ written_of ledger bs
+    written_all : view_written (Ok size) last ≡ written_of ledger bs
     unfolding answer_of written_of
-    written_all = rw (holds-both.0, size_is holds-both.0, holds-both.1, last-is holds-both.0 room-is)
+    written_all =
+        ap (λ (r : Result ℕ WriteError). view_written r last) (sym taken)
+        ∙ rw (holds-both.0, size_is holds-both.0, holds-both.1, last-is holds-both.0 room-is)
 
-  refused-by : (t u : Bool) → eqb (answer_of t u (image_size first n)).number 0 ≡ false → sound ledger ≡ t → enough ≡ u → view_written (answer_of t u (image_size first n)) bs ≡ written_of ledger bs
+  refused-by : (t u : Bool) (e : WriteError) → answer_of t u (image_size first n) ≡ Err e → sound ledger ≡ t → enough ≡ u → view_written (answer_of t u (image_size first n)) bs ≡ written_of ledger bs
   unfolding answer_of written_of
-  refused-by true true h e f = absurd (true≢false h)
-  refused-by true false h e f = rw (e, size_is e, f)
-  refused-by false u h e f = rw e
+  refused-by true true e h p q = cc
+  refused-by true false e h p q = rw (p, size_is p, q)
+  refused-by false true e h p q = rw p
+  refused-by false false e h p q = rw p
 
-  pub refused_all : eqb answer.number 0 ≡ false → view_written answer bs ≡ written_of ledger bs
-  refused_all h = refused-by (sound ledger) enough h refl refl
+  refused_all : (e : WriteError) → answer ≡ Err e → view_written (Err e) bs ≡ written_of ledger bs
+  refused_all e h = ap (λ (r : Result ℕ WriteError). view_written r bs) (sym h) ∙ refused-by (sound ledger) enough e h refl refl
+
+  -- the same from what the calls of the code gave: whether the ledger is sound, the first section's size, and what is answered
+  module _ (ok : Bool) (f : ℕ) (r : Result ℕ WriteError) (s : ok ≡ sound ledger) (q : f ≡ first) (a : r ≡ answer_of ok (leb (image_size f n) (length bs)) (image_size f n)) where
+    answered : r ≡ answer
+    answered = a ∙ (λ t. answer_of (s t) (leb (image_size (q t) n) (length bs)) (image_size (q t) n))
+
+    pub refused-as : (e : WriteError) → r ≡ Err e → view_written (Err e) bs ≡ written_of ledger bs
+    refused-as e h = refused_all e (sym answered ∙ h)
+
+    module _ (k : ℕ) (h : r ≡ Ok k) (o : List ℕ) (w : o ≡ headed) where
+      pub rest-is-there : f ≤ length o
+      rest-is-there = rw (q, w, headed-long) (first_fits k (sym answered ∙ h))
+
+      pub written-as : (x : List ℕ) → x ≡ written_rows ws n (mid_of f (length o - f) o) → view_written (Ok k) (put_mid f (length o - f) o x) ≡ written_of ledger bs
+      written-as x v =
+          let stored : put_mid f (length o - f) o x ≡ last =
+          ap (put_mid f (length o - f) o) v
+          ∙ (λ t. put_mid (q t) (length (w t) - q t) (w t) (written_rows ws n (mid_of (q t) (length (w t) - q t) (w t))))
+          ∙ ap (λ (z : ℕ). put_mid first (z - first) headed (written_rows ws n (mid_of first (z - first) headed))) headed-long in
+          ap (view_written (Ok k)) stored ∙ written_all k (sym answered ∙ h)

@@ -1,1 +1,2 @@
 pub mod ImageWrites
+pub mod WrittenBytes

@@ -1,8 +1,8 @@
 // What is answered where an image is to be written, and whether a buffer has room for it (docs/RULES.md, "Image").
-ghost use Rattle.std.specs.Prelude.{◌≡◌, not, eqb, leb};
+ghost use Rattle.std.specs.Prelude.{◌≡◌, leb};
 ghost use Rattle.ledger_written.specs.Writes.{image_size, answer_of};
 
-use crate::Written;
+use crate::WriteError;
 
 // Whether the buffer has room for the first section, of `first` bytes, and the second: two bytes for its count and 115 for each row.
 fn has_room(first: usize, row_count: usize, room: usize) -> bool
@@ -17,27 +17,16 @@ fn has_room(first: usize, row_count: usize, room: usize) -> bool
     row_count <= (room - 2 - first) / 115
 }
 
-// What is answered: a ledger that breaks a reading rule is refused first, then a buffer that is too short.
-pub fn writing(ok: bool, first: usize, row_count: usize, room: usize) -> Written
+// What is answered: a ledger that breaks a reading rule is refused first, then a buffer that is too short. Else the image's size.
+#[tactic(auto, unfolding(crate::specs::Writes::answer_of))]
+pub fn writing(ok: bool, first: usize, row_count: usize, room: usize) -> Result<usize, WriteError>
     ensures { result ≡ answer_of ok (leb (image_size first row_count) room) (image_size first row_count) }
 {
-    if ok {
-        if has_room(first, row_count, room) {
-            return Written {
-                number: 0,
-                size: first + (2 + 115 * row_count),
-            };
-        }
-        return Written {
-            number: 30,
-            size: 0,
-        };
+    if !ok {
+        return Err(WriteError::Malformed);
     }
-    Written { number: 1, size: 0 }
-}
-
-pub fn is_refused(answer: Written) -> bool
-    ensures { result ≡ not (eqb answer.number 0) }
-{
-    answer.number != 0
+    if !has_room(first, row_count, room) {
+        return Err(WriteError::ShortBuffer);
+    }
+    Ok(first + (2 + 115 * row_count))
 }

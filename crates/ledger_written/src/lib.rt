@@ -2,10 +2,11 @@
 #![tactic(auto)]
 
 pub mod answer;
+pub mod error;
 
-// What writing an image answers: 0, or the refusal 1 or 30, and how many bytes the image has, or 0 after a refusal.
-#[derive(Clone, Copy)]
-pub struct Written {
-    pub number: u8,
-    pub size: usize,
+// Why no image is written: the ledger breaks a reading rule, or the buffer is too short.
+#[derive(Clone, Copy, PartialEq, Eq)]
+pub enum WriteError {
+    Malformed,
+    ShortBuffer,
 }

@@ -1,19 +1,24 @@
-use mathlib.Core.Path.{◌≡◌, ap, ◌∙◌}
+use mathlib.Core.Path.{◌≡◌}
 use lib.ListN.{length}
 use borrow.Author.Rules.{rules}
-use Rattle.ledger_image.specs.Images.{ImageAnswer, image_number}
-use Rattle.ledger_read.proofs.ReadBack.{ReadInto}
-use Rattle.ledger_laws.proofs.ReadLedger.{answer-is, read_kept, read_view}
+use Rattle.std.proofs.lemmas.Result.{err_from_is_err_and}
+use Rattle.ledger_laws.proofs.ReadLedger.{number-as, view-as, read-refused}
 use Rattle.ledger.proofs.ledger.read_image.Goals as goal
+
+pub returns-in_err-read : goal.returns-in_err-read
+returns-in_err-read c =
+    let held = c.args.held in
+    let p = err_from_is_err_and c.from_residual.result c.from_residual.ensures.1 in
+    let registries : length held.registries ≡ 16 = search rules in
+    let rows : length held.rows ≡ 256 = search rules in
+    let number = number-as held c.args.image.now registries rows _ _ _ c.read_image.ensures _ c.in_err-read.was in
+    record { number = rw p.1 number; ledger = rw p.1 (read-refused held c.args.image.now number) }
 
 pub returns : goal.returns
 returns c =
     let held = c.args.held in
     let s = c.args.image.now in
-    let done = c.read_image-read in
     let registries : length held.registries ≡ 16 = search rules in
     let rows : length held.rows ≡ 256 = search rules in
-    let into : ReadInto s held.registries done.new.registries held.rows done.new.rows held.registry_count held.row_count done.result =
-    record { number = done.ensures.number; counts = done.ensures.counts; rows = done.ensures.rows; registries = done.ensures.registries } in
     record
-    { number = done.ensures.number ∙ ap (λ (a : ImageAnswer). image_number a) (answer-is held.registries held.rows s registries rows); ledger = read_view held s registries rows done.result done.new.registries done.new.rows into; kept = read_kept held s registries rows done.result done.new.registries done.new.rows into }
+    { number = number-as held s registries rows _ _ _ c.read_image.ensures _ c.in_ok-read.was; ledger = view-as held s registries rows _ _ _ c.read_image.ensures _ c.in_ok-read.was }

@@ -1,30 +1,21 @@
-use Rattle.ledger_image_rows_check.specs.IdLists.{view_ids}
-use Rattle.ledger_image_check.proofs.CheckLaws.{Made, answer-held, answer-rows, answer-refused}
+use Rattle.std.proofs.lemmas.Result.{err_from_is_err_and}
+use Rattle.ledger_image_check.proofs.CheckLaws.{answer-broken, answer-held, answer-rows, answer-refused}
 use Rattle.ledger_image_check.proofs.image.check_image.Goals as goal
+use Rattle.ledger_image_check.proofs.image.check_image.Goals.{else-section-via-then-section+else-check_rows, else-section-via-else-section}
+
+pub returns-in_err-registries : goal.returns-in_err-registries
+returns-in_err-registries c =
+    let p = err_from_is_err_and c.from_residual.result c.from_residual.ensures.1 in
+    rw p.1 (answer-broken _ c.in_err-registries.ensures)
 
 pub returns-then-check_rows : goal.returns-then-check_rows
 returns-then-check_rows c =
-    let Known : (Type 0) =
-    let r = c.check_registries-registries.result in
-    Made c.args.image.now r.ok (view_ids r.ids) r.next c.read_count-section.result in
-    let known : (Known) =
-    record { passed = c.check_registries-registries.ensures.ok; listed = c.check_registries-registries.ensures.ids; behind = c.check_registries-registries.ensures.next; counted = c.read_count-section.ensures } in
-    answer-held _ _ _ _ _ (known) c.if-section-registries.true _ c.check_rows.ensures c.if-check_rows.true _ c.size.ensures.value
+    answer-held _ _ _ c.in_ok-registries.ensures c.read_count-section.result c.read_count-section.ensures c.if-section.true c.if-check_rows.ensures _ c.size.ensures.value
 
-pub returns-else-check_rows : goal.returns-else-check_rows
-returns-else-check_rows c =
-    let Known : (Type 0) =
-    let r = c.check_registries-registries.result in
-    Made c.args.image.now r.ok (view_ids r.ids) r.next c.read_count-section.result in
-    let known : (Known) =
-    record { passed = c.check_registries-registries.ensures.ok; listed = c.check_registries-registries.ensures.ids; behind = c.check_registries-registries.ensures.next; counted = c.read_count-section.ensures } in
-    answer-rows _ _ _ _ _ (known) _ c.check_rows.ensures c.if-check_rows.false
-
-pub returns-else-section-registries : goal.returns-else-section-registries
-returns-else-section-registries c =
-    let Known : (Type 0) =
-    let r = c.check_registries-registries.result in
-    Made c.args.image.now r.ok (view_ids r.ids) r.next c.read_count-section.result in
-    let known : (Known) =
-    record { passed = c.check_registries-registries.ensures.ok; listed = c.check_registries-registries.ensures.ids; behind = c.check_registries-registries.ensures.next; counted = c.read_count-section.ensures } in
-    answer-refused _ _ _ _ _ (known) c.if-section-registries.false
+pub returns : goal.returns
+returns c =
+    let r = c.read_count-section in
+    elim c.else-section.branch [
+      | else-section-via-then-section+else-check_rows w ↦ answer-rows _ _ _ c.in_ok-registries.ensures r.result r.ensures w.if-check_rows.ensures
+      | else-section-via-else-section w ↦ answer-refused _ _ _ c.in_ok-registries.ensures r.result r.ensures w.if-section.false
+    ]

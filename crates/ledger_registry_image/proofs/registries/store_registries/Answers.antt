@@ -5,7 +5,7 @@ use Rattle.ledger_sections.proofs.SectionReads.{after_none, after_more, upto-non
 use Rattle.ledger_registry_image.proofs.registries.store_registries.Goals as goal
 
 pub loop-i-init : goal.loop-i-init
-loop-i-init c = record { in_range = omega arith; behind = sym (after_none c.args.image.now); stored = upto-none c.args.image.now c.args.registries.now }
+loop-i-init c = record { behind = sym (after_none c.args.image.now); stored = upto-none c.args.image.now c.args.registries.now }
 
 -- one registry more is read at the cursor and stored
 pub loop-i-preserved : goal.loop-i-preserved
@@ -16,7 +16,6 @@ loop-i-preserved c =
     let r = c.read_next-r.ensures in
     let there : l.i < length ys = omega (arith, c.min-n.ensures) in
     record {
-      in_range = omega arith;
       behind = rw add-one (r.1 ∙ ap (λ (d : Cursor). (read_registry bs d).next) l.invariant.behind ∙ after_more bs l.i);
       stored = rw add-one (upto-more bs ys l.i l.registries c.read_next-r.result.value there l.invariant.stored (rw l.invariant.behind at r.0));
     }

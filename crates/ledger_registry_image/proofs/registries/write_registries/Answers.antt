@@ -8,7 +8,6 @@ pub loop-i-init : goal.loop-i-init
 loop-i-init c =
     let xs = c.args.registries.now in
     record {
-      in_range = omega arith;
       place = sym (sized-none xs);
       written = (rw c.registries_size-size.ensures at c.write_head-n.ensures.1) ∙ wrote_none xs c.args.count c.args.out.now;
     }
@@ -32,7 +31,6 @@ loop-i-preserved c =
     let many : c.write_head-n.result ≡ following xs c.args.count bs = rw c.registries_size-size.ensures at c.write_head-n.ensures.0 in
     let there : l.i < length xs = omega (arith, many, few-following xs c.args.count bs) in
     record {
-      in_range = omega arith;
       place = rw add-one (w.0 ∙ rw l.invariant.place (sized-more xs l.i there));
       written = rw add-one (w.1 ∙ rw (l.invariant.written, l.invariant.place) (wrote-more xs c.args.count bs l.i there));
     }

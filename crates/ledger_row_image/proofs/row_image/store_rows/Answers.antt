@@ -5,7 +5,6 @@ use Rattle.ledger_row_image.proofs.row_image.store_rows.Goals as goal
 pub loop-i-init : goal.loop-i-init
 loop-i-init c =
     record {
-      in_range = omega arith;
       behind = cursor-none c.args.image.now c.args.at c.args.rows.now;
       stored = read_none c.args.image.now c.args.at c.args.rows.now;
     }
@@ -19,7 +18,6 @@ loop-i-preserved c =
     let r = c.read-read.result in
     let e = rw l.invariant.behind at c.read-read.ensures in
     record {
-      in_range = omega arith;
       behind = rw add-one (cursor-more bs c.args.at ys l.i r e);
       stored = rw add-one (c.store_row.ensures ∙ rw l.invariant.stored (read_more bs c.args.at ys l.i r e));
     }

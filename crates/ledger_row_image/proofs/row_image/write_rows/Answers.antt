@@ -12,7 +12,7 @@ loop-i-init c =
     let bs = c.args.out.now in
     let xs = c.args.rows.now in
     let room : 2 + 115 * c.args.count ≤ length bs = enough-room bs xs c.args.count (sym c.if-not-section_fits.ensures) in
-    record { in_range = omega arith; place = omega arith; written = c.write_count.ensures.1 ∙ wrote_none bs xs c.args.count (omega arith) }
+    c.write_count.ensures.1 ∙ wrote_none bs xs c.args.count (omega arith)
 
 -- one row more is written behind the others
 pub loop-i-preserved : goal.loop-i-preserved
@@ -23,11 +23,7 @@ loop-i-preserved c =
     let l = c.loop-i in
     let few : n ≤ length xs = enough-rows bs xs n (sym c.if-not-section_fits.ensures) in
     let room : 2 + 115 * n ≤ length bs = enough-room bs xs n (sym c.if-not-section_fits.ensures) in
-    record {
-      in_range = omega arith;
-      place = omega arith;
-      written = rw add-one (c.write.ensures.1 ∙ rw (l.invariant.written, l.invariant.place) (wrote-more bs xs n l.i (omega arith) (omega arith)));
-    }
+    rw add-one (c.write.ensures.1 ∙ rw l.invariant (wrote-more bs xs n l.i (omega arith) (omega arith)))
 
 -- the loop ends when the count of rows is written
 pub returns : goal.returns
@@ -36,4 +32,4 @@ returns c =
     let xs = c.args.rows.now in
     let n = c.args.count in
     let end : c.loop-i.i ≡ n = omega arith in
-    c.loop-i.invariant.written ∙ ap (wrote bs xs n) end ∙ wrote-all bs xs n (sym c.if-not-section_fits.ensures)
+    c.loop-i.invariant ∙ ap (wrote bs xs n) end ∙ wrote-all bs xs n (sym c.if-not-section_fits.ensures)

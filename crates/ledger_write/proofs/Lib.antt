@@ -1,0 +1,1 @@
+pub use Rattle.ledger_written.proofs.WrittenBytes
