@@ -7,8 +7,7 @@
 --     broken-same                       equal refusals name one rule and one place
 --     broken-rule, broken-below, broken-breaks, broken-least
 --                                       a refusal names the rule that was checked, and the least place that breaks it
---     until-within, held-step, held-breaks
---                                       the loop that looks for the first place that breaks a rule
+--     breaks-is, walked                 whether a place breaks a rule, by what its element is held against; so on a walk along the list
 --     repeat-alone                      a repeat is looked for in its own list alone
 --     distinct-sound, sound-distinct, sound-apart
 --                                       a list is sound where no element stands before its place too, and there alone
@@ -168,26 +167,6 @@ module _ (r : Rule) (l o : List BasicPrefix) where
   -- the position is the least that breaks the rule
   pub broken-least : (q : Rule) (i : ℕ) → check r l o ≡ broken q i → (k : ℕ) → k < i → breaks r l o k ≡ false
   broken-least q i e k b = let w = broken-first q i e in first-least P (length l) k (rw w.1 at b)
-
--- an element is held against those before it in its own list, or against all of the other, so against no more than an array has
-pub until-within : (repeat : Bool) (i m k : ℕ) → i ≤ k → m ≤ k → cond repeat i m ≤ k
-until-within true i m k p q = p
-until-within false i m k p q = q
-
--- one of them more is looked at
-pub held-step : (repeat : Bool) (l o : Members) → length l.items ≡ 16 → length o.items ≡ 16 → (x : BasicPrefix) (i j : ℕ) → i < length (view l) → j < cond repeat i (length (view o)) → has x (take (j + 1) (cond repeat (view l) (view o))) ≡ (has x (take j (cond repeat (view l) (view o))) || eq_prefix (cond repeat (get_or l.items j no_prefix) (get_or o.items j no_prefix)) x)
-held-step true l o p q x i j h b = let c : j < length (view l) = omega arith in rw (view-at l p j c) (has-step x (view l) j c)
-held-step false l o p q x i j h b = rw (view-at o q j b) (has-step x (view o) j b)
-
--- whether one of them was found says whether the place breaks the rule
-pub held-breaks : (r : Rule) (l o : List BasicPrefix) (i : ℕ) (found : Bool) → found ≡ has (at l i) (take (cond (is_repeat r) i (length o)) (cond (is_repeat r) l o)) → breaks r l o i ≡ cond (is_missing r) (not found) found
-unfolding breaks
-held-breaks DuplicateBacker l o i found e = sym e
-held-breaks DuplicateCut l o i found e = sym e
-held-breaks DuplicateAddition l o i found e = sym e
-held-breaks CutAddOverlap l o i found e = rw (e, take-length o)
-held-breaks RemovalNotCurrent l o i found e = rw (e, take-length o)
-held-breaks AdditionAlreadyPresent l o i found e = rw (e, take-length o)
 
 -- whether a place breaks a rule, by what its element is held against
 pub breaks-is : (r : Rule) (l o : List BasicPrefix) (i : ℕ) → breaks r l o i ≡ cond (is_missing r) (not (has (at l i) (cond (is_repeat r) (take i l) o))) (has (at l i) (cond (is_repeat r) (take i l) o))

@@ -7,7 +7,7 @@ use cesr::{BasicPrefix, Matter};
 
 impl Members {
     pub fn empty() -> Members
-        ensures { view result ≡ [] }
+        ensures { (view result ≡ []) × (result.count ≡ 0) }
     {
         Members {
             items: [no_prefix(); 16],
@@ -53,6 +53,7 @@ impl Members {
         ensures ok { is_ok result ≡ ltb (length (view self.old)) 16 }
         ensures list { view self.new ≡ pushed (view self.old) p }
         ensures kept { OnErr result (self.new ≡ self.old) }
+        ensures count { self.old.count ≤ 16 → self.new.count ≤ 16 }
     {
         let n = self.count;
         if n < 16 {

@@ -14,11 +14,11 @@ returns-then-n-lt16 c =
     let m = c.args.self.now in
     let full : length m.items ≡ 16 = search length-mapped in
     let b : length (view m) < 16 = omega (arith, view-size m full) in
-    record { ok = sym (lt-ltb (length (view m)) 16 b); list = view-push m full c.args.p c.if-n-lt16.true ∙ sym (pushed_room (view m) c.args.p b); kept = search rules }
+    record { ok = sym (lt-ltb (length (view m)) 16 b); list = view-push m full c.args.p c.if-n-lt16.true ∙ sym (pushed_room (view m) c.args.p b); kept = search rules; count = search rules }
 
 pub returns : goal.returns
 returns c =
     let m = c.args.self.now in
     let full : length m.items ≡ 16 = search length-mapped in
     let b : 16 ≤ length (view m) = omega (arith, view-size m full) in
-    record { ok = sym (le-ltb (length (view m)) 16 b); list = sym (pushed-full (view m) c.args.p b); kept = search rules }
+    record { ok = sym (le-ltb (length (view m)) 16 b); list = sym (pushed-full (view m) c.args.p b); kept = search rules; count = search rules }

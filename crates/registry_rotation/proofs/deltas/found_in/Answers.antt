@@ -1,27 +1,23 @@
-use Prim.Native.Nat.{ℕ, ◌-◌}
-use mathlib.Core.Path.{refl, ap, ◌∙◌}
-use native.Mathlib.Omega.{arith}
-use borrow.Author.Rules.{rules}
+use Rattle.std.proofs.Common.{◌∙◌, sym, refl, false, arith}
 use Rattle.events.specs.Members.{has}
-use Rattle.codec.proofs.Loops.{times-passed}
 use Rattle.codec.specs.Readers.{read_prefix, times}
-use Rattle.registry_rotation.proofs.Listed.{has_more}
+use Rattle.codec.proofs.Loops.{times-passed}
+use Rattle.registry_rotation.proofs.Listed.{has_more, found_listed}
 use Rattle.registry_rotation.proofs.deltas.found_in.Goals as goal
 
-pub loop-i-init : goal.loop-i-init
+pub loop-init : goal.loop-init
 unfolding times has
-loop-i-init c = (search rules, refl, refl)
+loop-init c = record { next = refl; none = refl }
 
-pub loop-i-preserved : goal.loop-i-preserved
-loop-i-preserved c =
-    let l = c.loop-i in (
-      search rules,
-      times-passed read_prefix _ _ _ _ _ l.invariant.1 c.pass_prefix-c.ensures,
-      has_more _ _ _ l.i _ l.found _ l.invariant.1 l.invariant.2 c.same_at-found.ensures,
-    )
+pub returns-then-same_at : goal.returns-then-same_at
+returns-then-same_at c =
+    let l = c.loop in
+    sym (found_listed _ _ _ _ l.counter _ (omega arith) l.invariant.next (sym c.same_at.ensures ∙ c.if-same_at.true))
 
-pub returns : goal.returns
-returns c =
-    let l = c.loop-i in
-    let a = c.args in
-    l.invariant.2 ∙ ap (λ (k : ℕ). has a.x (times k read_prefix a.s.now a.start).value) (omega (arith, l.invariant.0))
+pub loop-preserved : goal.loop-preserved
+loop-preserved c =
+    let l = c.loop in
+    record {
+      next = times-passed read_prefix _ _ _ _ _ l.invariant.next c.pass_prefix-c.ensures;
+      none = sym (has_more _ _ _ l.counter _ false _ l.invariant.next (sym l.invariant.none) (sym c.if-same_at.false ∙ c.same_at.ensures));
+    }
