@@ -1,5 +1,7 @@
 -- Laws of lists of backers, and of the rules on them.
---     view-size, view-at, view-push     an array and a count, seen as a list
+--     view-size, view-at, view-push, view-counted
+--                                       an array and a count, seen as a list
+--     push-done, push_full              what a push answers
 --     has-any                           the library's word for it
 --     has-at, has-place, has-none       whether a prefix is in a list, and at which place
 --     has-member, has-found             the same with equal prefixes
@@ -8,6 +10,7 @@
 --     broken-rule, broken-below, broken-breaks, broken-least
 --                                       a refusal names the rule that was checked, and the least place that breaks it
 --     breaks-is, walked                 whether a place breaks a rule, by what its element is held against; so on a walk along the list
+--     walk-head, walk-tail              the element that a walk has come to, and the next place
 --     repeat-alone                      a repeat is looked for in its own list alone
 --     distinct-sound, sound-distinct, sound-apart
 --                                       a list is sound where no element stands before its place too, and there alone
@@ -20,8 +23,8 @@ use mathlib.Core.List.{List, [], ◌∷◌, ◌++◌}
 use native.Mathlib.Omega.{arith}
 use native.Mathlib.Nat.{add-zero}
 use borrow.Author.Tests.{lt-ltb, le-ltb, ltb-true, ltb-false}
-use lib.ListN.{length, length-drop, take, drop, set, get_or, get_or-eq_default}
-use lib.Seq.{length-take-le, get_or-take, take-length}
+use lib.ListN.{length, length-drop, take, drop, set, get_or, get_or-eq_default, length-take}
+use lib.Seq.{drop-drop, length-take-le, get_or-take}
 use lib.Dec.{ltb}
 use Rattle.cesr.specs.First.{first}
 use Rattle.cesr.proofs.First.{first-none, first_found, first_holds, first-least}
@@ -51,6 +54,11 @@ module _ (m : Members) (h : length m.items ≡ 16) where
   unfolding view
   view-push p b = kept_push m.count 16 m.items h p (omega (arith, kept-size m.count 16 m.items h))
 
+-- there are no more than the count says
+pub view-counted : (m : Members) → length (view m) ≤ m.count
+unfolding view
+view-counted m = omega (arith, length-take m.count m.items)
+
 -- past the end there is no member
 pub at_none : (l : List BasicPrefix) (i : ℕ) → length l ≤ i → at l i ≡ no_prefix
 at_none l i b = get_or-eq_default l no_prefix b
@@ -62,6 +70,13 @@ pushed_room l p b = rw (lt-ltb (length l) 16 b)
 pub pushed-full : (l : List BasicPrefix) (p : BasicPrefix) → 16 ≤ length l → pushed l p ≡ l
 unfolding pushed
 pushed-full l p b = rw (le-ltb (length l) 16 b)
+
+-- what a push answers: where it finds room the prefix stands behind the others, and where it finds none there are 16
+pub push-done : (l k : List BasicPrefix) (p : BasicPrefix) → true ≡ ltb (length l) 16 → k ≡ pushed l p → k ≡ l ++ (p ∷ [])
+push-done l k p e f = f ∙ pushed_room l p (ltb-true (length l) 16 (sym e))
+
+pub push_full : (l : List BasicPrefix) → false ≡ ltb (length l) 16 → 16 ≤ length l
+push_full l e = ltb-false (length l) 16 (sym e)
 
 pub has-append : (x : BasicPrefix) (a b : List BasicPrefix) → has x (a ++ b) ≡ (has x a || has x b)
 unfolding has
@@ -178,10 +193,18 @@ breaks-is CutAddOverlap l o i = refl
 breaks-is RemovalNotCurrent l o i = refl
 breaks-is AdditionAlreadyPresent l o i = refl
 
+-- a walk along a list, that has come to place i: its head is the element there
+pub walk-head : (l rest : List BasicPrefix) (i : ℕ) (x : BasicPrefix) → i < length l → rest ≡ drop i l → (0 < length rest → x ≡ at rest 0) → x ≡ at l i
+walk-head l rest i x b e h = h (rw e (omega (arith, length-drop i l))) ∙ rw e (simp add-zero at (get_or-drop i l 0 no_prefix))
+
+-- and its next is the next place
+pub walk-tail : (l rest next : List BasicPrefix) (i : ℕ) → rest ≡ drop i l → next ≡ drop 1 rest → next ≡ drop (i + 1) l
+walk-tail l rest next i e f = f ∙ rw e (drop-drop 1 i l)
+
 -- the same of the element that a walk along the list has come to, by whether it was found
 pub walked : (r : Rule) (l o rest : List BasicPrefix) (i : ℕ) (x : BasicPrefix) (found missing : Bool) → i < length l → rest ≡ drop i l → (0 < length rest → x ≡ at rest 0) → found ≡ has x (cond (is_repeat r) (take i l) o) → missing ≡ is_missing r → breaks r l o i ≡ not (beq found missing)
 walked r l o rest i x found missing b e h f m =
-    let here : x ≡ at l i = h (rw e (omega (arith, length-drop i l))) ∙ rw e (simp add-zero at (get_or-drop i l 0 no_prefix)) in
+    let here = walk-head l rest i x b e h in
     breaks-is r l o i ∙ rw (← here, ← f, ← m) (go missing found)
   where
     go : (m f : Bool) → cond m (not f) f ≡ not (beq f m)

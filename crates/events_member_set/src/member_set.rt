@@ -54,7 +54,13 @@ impl Prefixes for &[BasicPrefix] {
 }
 
 // Whether x, which has a place in the list, stands where the rule looks for it too: before its place, for a repeat, or in the other list.
-fn is_found<L: Prefixes, O: Prefixes>(rule: Rule, x: BasicPrefix, list: L, place: usize, other: O) -> bool
+fn is_found<L: Prefixes, O: Prefixes>(
+    rule: Rule,
+    x: BasicPrefix,
+    list: L,
+    place: usize,
+    other: O,
+) -> bool
     ensures { result ≡ has x (cond (is_repeat rule) (take place (L.list list)) (O.list other)) }
 {
     if rule.is_repeat() {
@@ -97,7 +103,11 @@ pub fn check_deltas<L: Prefixes>(cuts: L, additions: L) -> Result<(), Broken>
 }
 
 // Each cut is a current backer, and no addition is one.
-pub fn check_current<C: Prefixes, L: Prefixes>(current: C, cuts: L, additions: L) -> Result<(), Broken>
+pub fn check_current<C: Prefixes, L: Prefixes>(
+    current: C,
+    cuts: L,
+    additions: L,
+) -> Result<(), Broken>
     ensures answer { result ≡ check_current (C.list current) (L.list cuts) (L.list additions) }
     ensures offends { Offends result (record { backers = C.list current; cuts = L.list cuts; additions = L.list additions }) }
 {

@@ -10,9 +10,8 @@ use lib.Dec.{eqb, leb}
 use lib.ListN.{length, take}
 use Rattle.cesr.specs.Primitives.{is_basic, is_said}
 use Rattle.cesr.specs.declared.BasicPrefix.{BasicPrefix}
-use Rattle.events.specs.Members.{view, no_prefix, at, has, check_members}
-use Rattle.events.specs.declared.Membership.{Membership}
-use Rattle.events.specs.declared.Membership.TheVariants.{Sound, Broken}
+use Rattle.std.specs.Prelude.{Ok, Err}
+use Rattle.events.specs.Members.{view, no_prefix, at, has, Membership, check_members}
 use Rattle.events.proofs.MemberLaws.{sound-distinct, distinct-sound}
 use Rattle.events_tel.specs.Configs.{view_configs, no_backers}
 use Rattle.events_toad.specs.Toads.{exact_ok}
@@ -29,8 +28,8 @@ repeated : (l : List BasicPrefix) (i : ℕ) → i < length l → has (at l i) (t
 repeated l i b h = go (check_members l) refl
   where
     go : (m : Membership) → check_members l ≡ m → accepts (backer_set m) ≡ false
-    go Sound e = absurd (false≢true (sym (sound-distinct l e i b) ∙ h))
-    go (Broken r j) e = refl
+    go (Ok u) e = absurd (false≢true (sym (sound-distinct l e i b) ∙ h))
+    go (Err x) e = refl
 
 -- a backer that stands before its place too, or whose letter is none, fails the list; another passes both rules
 module _ (l : List BasicPrefix) (i : ℕ) (b : i < length l) where

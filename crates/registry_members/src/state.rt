@@ -19,9 +19,10 @@ pub fn updated_members<L: Prefixes>(
 {
     let mut members = Members::empty();
     for p in current {
-        if !cuts.has(*p) {
-            members.push(*p)?;
+        if cuts.has(*p) {
+            continue;
         }
+        members.push(*p)?;
     }
     let mut rest = additions;
     for _ in 0..additions.size() {

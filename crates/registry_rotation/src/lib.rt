@@ -3,9 +3,8 @@
 
 pub mod deltas;
 
-pub use events_member_set::member_set::{check_current, check_deltas, check_members};
-
 use codec::Listed;
+pub use events_member_set::member_set::{check_current, check_deltas, check_members};
 
 // A list that stays in the bytes, and the bytes.
 #[derive(Clone, Copy)]

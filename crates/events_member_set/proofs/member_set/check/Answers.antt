@@ -1,7 +1,6 @@
 use Rattle.std.proofs.Common.{◌∙◌, sym, arith}
 use borrow.Author.Count.{below_more}
-use lib.Seq.{drop-drop}
-use Rattle.events.proofs.MemberLaws.{walked, check-found, all_sound}
+use Rattle.events.proofs.MemberLaws.{walk-tail, walked, check-found, all_sound}
 use Rattle.events_member_set.proofs.member_set.check.Goals as goal
 
 pub returns-then-found-is_missing : goal.returns-then-found-is_missing
@@ -15,7 +14,7 @@ loop-at-preserved g c =
     let f = c.loop-at in
     let here = walked c.args.rule (g.L.Prefixes.list c.args.list) (g.O.Prefixes.list c.args.other) _ f.at _ _ _ (omega arith) f.invariant.rest c.head.ensures c.is_found-found.ensures c.is_missing.ensures in
     record {
-      rest = c.tail-rest.ensures ∙ rw f.invariant.rest (drop-drop 1 f.at _);
+      rest = walk-tail _ _ _ f.at f.invariant.rest c.tail-rest.ensures;
       sound = below_more _ _ f.invariant.sound (here ∙ c.if-found-is_missing.false);
     }
 

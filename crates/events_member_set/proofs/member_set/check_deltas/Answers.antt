@@ -1,7 +1,7 @@
-use Rattle.std.proofs.Common.{◌≡◌, ◌∙◌, ap, sym, refl, [], Err}
+use Rattle.std.proofs.Common.{◌≡◌, ◌∙◌, ap, refl, [], Err}
 use Rattle.std.proofs.lemmas.Result.{err_from_is_err_and}
 use Rattle.events.specs.declared.Rule.TheVariants.{DuplicateCut, DuplicateAddition}
-use Rattle.events.specs.Members.{check, check_deltas}
+use Rattle.events.specs.Members.{check_deltas}
 use Rattle.events.proofs.MemberLaws.{repeat-alone, deltas-offends}
 use Rattle.events_member_set.proofs.member_set.check_deltas.Goals as goal
 

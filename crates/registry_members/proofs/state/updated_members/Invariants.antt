@@ -11,7 +11,7 @@ invariant-loop-p g l = record {
 
 abbrev pub invariant-loop : goal.invariant-loop
 invariant-loop g l = record {
-  rest : g.L.Prefixes.list l.rest ≡ drop l.counter (g.L.Prefixes.list l.additions);
-  list : view l.members ≡ survivors (g.L.Prefixes.list l.cuts) l.current ++ take l.counter (g.L.Prefixes.list l.additions);
+  rest : g.L.Prefixes.list l.rest ≡ drop l.counter (g.L.Prefixes.list l.fn.additions);
+  list : view l.members ≡ survivors (g.L.Prefixes.list l.fn.cuts) l.current ++ take l.counter (g.L.Prefixes.list l.fn.additions);
   count : l.members.count ≤ 16;
 }
