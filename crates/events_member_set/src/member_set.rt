@@ -13,13 +13,10 @@ pub trait Prefixes: Copy {
     fn size(self) -> usize
         ensures { result ≡ length (list self) };
 
-    // The first one, where there is one.
-    fn head(self) -> BasicPrefix
-        ensures { 0 < length (list self) → result ≡ at (list self) 0 };
-
-    // Those behind the first.
-    fn tail(self) -> Self
-        ensures { list result ≡ drop 1 (list self) };
+    // The first one, where there is one, and those behind it.
+    fn split(self) -> (BasicPrefix, Self)
+        ensures head { 0 < length (list self) → result.0 ≡ at (list self) 0 }
+        ensures tail { list result.1 ≡ drop 1 (list self) };
 
     // The first n, or all.
     fn front(self, n: usize) -> Self
@@ -36,12 +33,10 @@ impl Prefixes for &[BasicPrefix] {
         self.len()
     }
 
-    fn head(self) -> BasicPrefix {
-        self.first().copied().unwrap_or(BasicPrefix(Matter::none()))
-    }
-
-    fn tail(self) -> Self {
-        self.get(1..).unwrap_or(&[])
+    fn split(self) -> (BasicPrefix, Self) {
+        let head = self.first().copied().unwrap_or(BasicPrefix(Matter::none()));
+        let tail = self.get(1..).unwrap_or(&[]);
+        (head, tail)
     }
 
     fn front(self, n: usize) -> Self {
@@ -75,11 +70,12 @@ fn check<L: Prefixes, O: Prefixes>(rule: Rule, list: L, other: O) -> Result<(), 
 {
     let mut rest = list;
     for at in 0..list.size() {
-        let found = is_found(rule, rest.head(), list, at, other);
+        let next = rest.split();
+        let found = is_found(rule, next.0, list, at, other);
         if found != rule.is_missing() {
             return Err(Broken { rule, at });
         }
-        rest = rest.tail();
+        rest = next.1;
     }
     Ok(())
 }

@@ -26,8 +26,9 @@ pub fn updated_members<L: Prefixes>(
     }
     let mut rest = additions;
     for _ in 0..additions.size() {
-        members.push(rest.head())?;
-        rest = rest.tail();
+        let next = rest.split();
+        members.push(next.0)?;
+        rest = next.1;
     }
     Ok(members)
 }

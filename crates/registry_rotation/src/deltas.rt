@@ -15,13 +15,12 @@ pub fn found_in(s: &[u8], start: Cursor, n: usize, x: BasicPrefix) -> bool
     ensures { result ≡ has x (times n read_prefix s.now start).value }
 {
     let mut c = start;
+    let mut found = false;
     for _ in 0..n {
-        if x.0.same_at(s, c.at) {
-            return true;
-        }
+        found |= x.0.same_at(s, c.at);
         c = c.pass_prefix(s);
     }
-    false
+    found
 }
 
 impl Prefixes for InBytes<'_> {
@@ -31,17 +30,15 @@ impl Prefixes for InBytes<'_> {
         at_most_16(self.list.count)
     }
 
-    fn head(self) -> BasicPrefix {
-        self.list.start.prefix(self.bytes).value
-    }
-
-    fn tail(self) -> Self {
+    fn split(self) -> (BasicPrefix, Self) {
+        let p = self.list.start.prefix(self.bytes);
         let count = self.size().saturating_sub(1);
-        let start = self.list.start.pass_prefix(self.bytes);
-        InBytes {
+        let start = p.next;
+        let tail = InBytes {
             bytes: self.bytes,
             list: Listed { count, start },
-        }
+        };
+        (p.value, tail)
     }
 
     fn front(self, n: usize) -> Self {

@@ -68,9 +68,9 @@ loop-preserved g c =
     let cuts = g.L.Prefixes.list c.args.cuts in
     let additions = g.L.Prefixes.list c.args.additions in
     let f = c.loop in
-    let x = walk-head additions _ f.counter _ (omega arith) f.invariant.rest c.head.ensures in
+    let x = walk-head additions _ f.counter _ (omega arith) f.invariant.rest c.split-next.ensures.head in
     record {
-      rest = walk-tail additions _ _ f.counter f.invariant.rest c.tail-rest.ensures;
+      rest = walk-tail additions _ _ f.counter f.invariant.rest c.split-next.ensures.tail;
       list = push-done _ _ _ c.in_ok-push-2.ensures.ok c.push-in-loop.ensures.list ∙ rw (f.invariant.list, x, take_step additions f.counter no_prefix (omega arith)) (append_assoc (survivors cuts l) (take f.counter additions) (at additions f.counter ∷ []));
       count = c.push-in-loop.ensures.count f.invariant.count;
     }
