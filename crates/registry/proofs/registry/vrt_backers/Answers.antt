@@ -1,6 +1,8 @@
 use Prim.Native.Nat.{ℕ, ◌≤◌}
 use mathlib.Core.Bool.{cond}
 use lib.Dec.{leb}
+use Rattle.std.specs.Prelude.{is_ok}
+use Rattle.std.specs.Result.{result_unwrap_or}
 use native.Mathlib.Omega.{arith}
 use lib.ListN.{length}
 use Rattle.events.specs.Members.{view, check_deltas, check_current}
@@ -34,8 +36,11 @@ returns c =
     let size = view-size b (full) in
     let ok = c.is_ok.result in
     let kept = updated-or u after.result c.trimmed.result (rw c.as_slice-now.ensures.value at after.ensures.list) after.ensures.count c.trimmed.ensures.1 in
-    let w : v ≡ cond ok u (view z.current) = rw (c.unwrap_or-backers.ensures, c.is_ok.ensures) (kept.0 ∙ rw c.trimmed.ensures.0) in
-    let small : b.count ≤ 16 = rw c.unwrap_or-backers.ensures kept.1 in
+    let told : ok ≡ is_ok after.result = c.is_ok.ensures.value in
+    let left : view c.trimmed.result ≡ view z.current = c.trimmed.ensures.0 in
+    let given : b ≡ result_unwrap_or after.result c.trimmed.result = c.unwrap_or-backers.ensures in
+    let w : v ≡ cond ok u (view z.current) = rw (given, told) (kept.0 ∙ ap (cond (is_ok after.result) u) left) in
+    let small : b.count ≤ 16 = rw given kept.1 in
     let count : b.count ≡ length v = omega (arith, size, small) in
     let l = signatures_in z.s.now z.signatures in
     let threshold : c.threshold_fits-threshold.result ≡ threshold_fits toad (length v) = c.threshold_fits-threshold.ensures ∙ ap (threshold_fits toad) count in
@@ -59,5 +64,5 @@ returns c =
       c.check_deltas.ensures.answer,
     ) in
     let chain = limit-chain ok toad u v (view z.current) l w in
-    let fits : ok ≡ leb (length u) 16 = c.is_ok.ensures ∙ rw c.as_slice-now.ensures.value at after.ensures.ok in
+    let fits : ok ≡ leb (length u) 16 = told ∙ rw c.as_slice-now.ensures.value at after.ensures.ok in
     record { answer = x ∙ rw (chain, fits); list = (λ h. limit-list deltas members rest ok u v (view z.current) w (rw x at h)); count = small }
