@@ -28,7 +28,10 @@ Placed s x = (rule : Rule) (i : ℕ) → x ≡ Rejected (BackerSet rule i) → O
 
 set-broken : (x : Membership) (rule : Rule) (i : ℕ) → backer_set x ≡ Rejected (BackerSet rule i) → x ≡ broken rule i
 set-broken (Ok u) rule i e = absurd (omega (arith, ap answer_number e))
-set-broken (Err b) rule i e = cc
+set-broken (Err b) rule i e =
+    let r : b.rule ≡ rule = cc in
+    let p : b.at ≡ i = cc in
+    rw (← r, ← p)
 
 module _ (s : Lists) where
   pub other-placed : (x : Answer) → eqb (answer_number x) 24 ≡ false → Placed s x
