@@ -1,13 +1,12 @@
 -- Lists of backers, and the rules on a list and on what a rotation cuts from it and adds to it (docs/RULES.md, "Lists of backers").
-use Rattle.std.specs.Prelude.{ℕ, ◌<◌, ◌≡◌, Bool, true, false, not, cond, ◌||◌, List, [], ◌∷◌, ◌++◌, length, get_or, take, ltb}
+use Rattle.std.specs.Prelude.{ℕ, ◌<◌, ◌≡◌, Bool, true, false, not, cond, ◌||◌, List, [], ◌∷◌, ◌++◌, length, get_or, take, ltb, Result, Ok, Err}
 use Rattle.cesr.specs.First.{first}
 use Rattle.cesr.specs.declared.BasicPrefix.{BasicPrefix}
 use Rattle.cesr.specs.Primitives.{none, eq_prefix}
 use Rattle.events.specs.declared.Members.{Members}
 use Rattle.events.specs.declared.Rule.{Rule}
 use Rattle.events.specs.declared.Rule.TheVariants.{DuplicateBacker, DuplicateCut, DuplicateAddition, CutAddOverlap, RemovalNotCurrent, AdditionAlreadyPresent}
-use Rattle.events.specs.declared.Membership.{Membership}
-use Rattle.events.specs.declared.Membership.TheVariants.{Sound, Broken}
+use Rattle.events.specs.declared.Broken.{Broken}
 
 -- the members, as a list: the array's elements before the count
 unfoldable pub view : Members → List BasicPrefix
@@ -38,10 +37,20 @@ rule_of CutAddOverlap = 4
 rule_of RemovalNotCurrent = 5
 rule_of AdditionAlreadyPresent = 6
 
+-- what the rules answer: nothing is broken, or a rule is, by the element at a position
+abbrev pub Membership : Type 0
+Membership = Result Unit Broken
+
+abbrev pub sound : Membership
+sound = Ok tt
+
+abbrev pub broken : Rule → ℕ → Membership
+broken r i = Err (record { rule = r; at = i })
+
 -- the number of the answer: 0, or refusal 24
 abbrev pub membership_number : Membership → ℕ
-membership_number Sound = 0
-membership_number (Broken r i) = 24
+membership_number (Ok u) = 0
+membership_number (Err b) = 24
 
 -- whether the element at place i of l breaks the rule; o is the list that the element is held against, and a repeat needs none.
 -- A repeat is an element that stands before its place too, so it is found at its second appearance.
@@ -73,12 +82,12 @@ is_missing AdditionAlreadyPresent = false
 
 -- one rule on a list: sound, or broken at the least place that breaks it
 unfoldable pub check : Rule → List BasicPrefix → List BasicPrefix → Membership
-check r l o = cond (ltb (first (breaks r l o) (length l)) (length l)) (Broken r (first (breaks r l o) (length l))) Sound
+check r l o = cond (ltb (first (breaks r l o) (length l)) (length l)) (broken r (first (breaks r l o) (length l))) sound
 
 -- the first refusal of two
 abbrev pub or_else : Membership → Membership → Membership
-or_else Sound b = b
-or_else (Broken r i) b = Broken r i
+or_else (Ok u) b = b
+or_else (Err x) b = Err x
 
 unfoldable pub check_members : List BasicPrefix → Membership
 check_members backers = check DuplicateBacker backers []
@@ -115,5 +124,5 @@ against AdditionAlreadyPresent s = s.backers
 
 -- where an answer names a rule and a position, the element there breaks the rule
 unfoldable pub Offends : Membership → Lists → Type 0
-Offends Sound s = Unit
-Offends (Broken r i) s = (i < length (subject r s)) × (breaks r (subject r s) (against r s) i ≡ true)
+Offends (Ok u) s = Unit
+Offends (Err b) s = (b.at < length (subject b.rule s)) × (breaks b.rule (subject b.rule s) (against b.rule s) b.at ≡ true)

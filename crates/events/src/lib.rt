@@ -5,7 +5,7 @@ pub mod member_set;
 
 pub use cesr::{BasicPrefix, Matter, Said};
 
-// The members are the first `count` of the items.
+// The members are the first `count` of the items. The capacity is no parameter, since the C interface has the list as a field.
 #[repr(C)]
 #[derive(Clone, Copy)]
 pub struct Members {
@@ -13,15 +13,12 @@ pub struct Members {
     pub count: usize,
 }
 
-// What `push` answers: whether there was a place, and the list.
-#[derive(Clone, Copy)]
-pub struct Pushed {
-    pub ok: bool,
-    pub members: Members,
-}
+// A list of 16 has no place for one more.
+#[derive(Clone, Copy, PartialEq, Eq)]
+pub struct NoRoom;
 
 // The rules, in the order of their numbers.
-#[derive(Clone, Copy)]
+#[derive(Clone, Copy, PartialEq, Eq)]
 pub enum Rule {
     DuplicateBacker,
     DuplicateCut,
@@ -31,9 +28,9 @@ pub enum Rule {
     AdditionAlreadyPresent,
 }
 
-// The answer of a check. `at` is the position, from 0, of an element that breaks the rule.
-#[derive(Clone, Copy)]
-pub enum Membership {
-    Sound,
-    Broken { rule: Rule, at: usize },
+// A rule that does not hold. `at` is the position, from 0, of an element that breaks it.
+#[derive(Clone, Copy, PartialEq, Eq)]
+pub struct Broken {
+    pub rule: Rule,
+    pub at: usize,
 }

@@ -2,7 +2,3 @@
 #![tactic(auto)]
 
 pub mod member_set;
-
-// The checks of lists of backers.
-#[derive(Clone, Copy)]
-pub struct MemberSet;

@@ -12,9 +12,8 @@ use lib.ListN.{length, take}
 use Rattle.std.specs.List.{list_any}
 use Rattle.cesr.specs.Primitives.{is_basic, is_said, eq_prefix}
 use Rattle.cesr.specs.declared.BasicPrefix.{BasicPrefix}
-use Rattle.events.specs.Members.{view, no_prefix, at, has, check_members}
-use Rattle.events.specs.declared.Membership.{Membership}
-use Rattle.events.specs.declared.Membership.TheVariants.{Sound, Broken}
+use Rattle.std.specs.Prelude.{Ok, Err}
+use Rattle.events.specs.Members.{view, no_prefix, at, has, Membership, check_members}
 use Rattle.events.proofs.MemberLaws.{sound-distinct, distinct-sound}
 use Rattle.events_tel.specs.Configs.{view_configs, no_backers}
 use Rattle.events_toad.specs.Toads.{exact_ok}
@@ -31,8 +30,8 @@ repeated : (l : List BasicPrefix) (i : ℕ) → i < length l → has (at l i) (t
 repeated l i b h = go (check_members l) refl
   where
     go : (m : Membership) → check_members l ≡ m → accepts (backer_set m) ≡ false
-    go Sound e = absurd (false≢true (sym (sound-distinct l e i b) ∙ h))
-    go (Broken r j) e = refl
+    go (Ok u) e = absurd (false≢true (sym (sound-distinct l e i b) ∙ h))
+    go (Err x) e = refl
 
 pub has-any : (x : BasicPrefix) (l : List BasicPrefix) → list_any (λ y. eq_prefix y x) l ≡ has x l
 unfolding has

@@ -1,5 +1,6 @@
 -- The rotations of a registry over decoded attempts.
 --     vrt-lists                  which checks of an accepted attempt passed
+--     updated-or                 the members that a rotation leaves, or the old ones
 --     limit-chain, limit-list    the members after a rotation, or, where they are too many, the refusal alone
 --     other-kind                 7
 --     ingest-judged              the outcome of bytes, from that of a decoded attempt: an accepted one leaves a state with the letters and bytes of its places
@@ -9,7 +10,12 @@ use mathlib.Core.List.{List}
 use mathlib.Core.Bool.{Bool, true, false, not, cond, ◌&&◌, false≢true}
 use lib.ListN.{length}
 use borrow.Author.Tests.{leb-true}
+use Rattle.std.specs.Prelude.{Result, Ok, Err, IfOk, is_ok}
+use Rattle.std.specs.Result.{result_unwrap_or}
 use Rattle.cesr.specs.Primitives.{eq_said}
+use Rattle.events.specs.Members.{view}
+use Rattle.events.specs.declared.Members.{Members}
+use Rattle.events.specs.declared.NoRoom.{NoRoom}
 use Rattle.cesr_sn.specs.declared.Sn.{Sn}
 use Rattle.cesr.specs.declared.Said.{Said}
 use Rattle.cesr.specs.declared.BasicPrefix.{BasicPrefix}
@@ -42,6 +48,11 @@ use Rattle.registry_answer.proofs.AnswerLaws.{or-first, or-second, passed, first
 use Rattle.registry_inception.proofs.WellLaws.{Lettered, well-by-view}
 use Rattle.registry.proofs.WellLaws.{good-rotated, well-view}
 use Rattle.registry_inception.proofs.InceptionLaws.{good-event}
+
+-- the members that a rotation leaves: the new ones, or the old ones where there is no room for those
+pub updated-or : (u : List BasicPrefix) (r : Result Members NoRoom) (d : Members) → IfOk r (λ m. view m ≡ u) → IfOk r (λ m. m.count ≤ 16) → d.count ≤ 16 → (view (result_unwrap_or r d) ≡ cond (is_ok r) u (view d)) × ((result_unwrap_or r d).count ≤ 16)
+updated-or u (Ok m) d e c f = (e, c)
+updated-or u (Err x) d e c f = (refl, f)
 
 pub limit-chain : (ok : Bool) (toad : ℕ) (u v now : List BasicPrefix) (l : List Signature) → v ≡ cond ok u now → or_else (accept_if ok TooManyBackers) (or_else (threshold_fits toad (length v)) (enough_receipts toad (length v) l)) ≡ or_else (accept_if ok TooManyBackers) (or_else (threshold_fits toad (length u)) (or_else (enough_receipts toad (length u) l) Accepted))
 unfolding accept_if first_of

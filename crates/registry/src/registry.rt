@@ -26,8 +26,7 @@ use registry_error::{Answer, RegistryRejection};
 use registry_inception::RegistryOutcome;
 use registry_inception::registry::threshold_fits;
 use registry_members::state::updated_members;
-use registry_rotation::deltas::check_deltas;
-use registry_rotation_held::held::check_current;
+use registry_rotation::{InBytes, check_current, check_deltas};
 use registry_signatures::Counted;
 use registry_state::RegistryState;
 use registry_verification::sequence::next_sn;
@@ -51,11 +50,20 @@ fn vrt_backers(
     ensures list { accepts result.answer ≡ true → view result.backers ≡ updated_members (view current) (members_in s.now cuts) (members_in s.now additions) }
     ensures count { result.backers.count ≤ 16 }
 {
-    let deltas = backer_set(check_deltas(s, cuts, additions));
-    let members = backer_set(check_current(s, current, cuts, additions));
-    let after = updated_members(s, current, cuts, additions);
-    let limit = accept_if(after.ok, RegistryRejection::TooManyBackers);
-    let backers = after.members;
+    let cut = InBytes {
+        bytes: s,
+        list: cuts,
+    };
+    let added = InBytes {
+        bytes: s,
+        list: additions,
+    };
+    let now = current.as_slice();
+    let deltas = backer_set(check_deltas(cut, added));
+    let members = backer_set(check_current(now, cut, added));
+    let after = updated_members(now, cut, added);
+    let limit = accept_if(after.is_ok(), RegistryRejection::TooManyBackers);
+    let backers = after.unwrap_or(current.trimmed());
     let count = backers.count;
     let threshold = threshold_fits(toad, count);
     let receipts = enough_receipts(s, signatures, count, toad);

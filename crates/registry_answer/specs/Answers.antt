@@ -1,7 +1,6 @@
 -- Answers, and the order of checks (docs/RULES.md, "Orders").
-use Rattle.std.specs.Prelude.{List, [], ◌∷◌, Bool, true, false, cond}
-use Rattle.registry_error.specs.declared.Membership.{Membership}
-use Rattle.registry_error.specs.declared.Membership.TheVariants.{Sound, Broken}
+use Rattle.std.specs.Prelude.{List, [], ◌∷◌, Bool, true, false, cond, Ok, Err}
+use Rattle.events.specs.Members.{Membership}
 use Rattle.registry_error.specs.declared.RegistryRejection.{RegistryRejection}
 use Rattle.registry_error.specs.declared.RegistryRejection.TheVariants.{BackerSet}
 use Rattle.registry_error.specs.declared.Answer.{Answer}
@@ -17,8 +16,8 @@ accept_if test refusal = cond test Accepted (Rejected refusal)
 
 -- the rules on lists of backers, as a check
 abbrev pub backer_set : Membership → Answer
-backer_set Sound = Accepted
-backer_set (Broken rule at) = Rejected (BackerSet rule at)
+backer_set (Ok u) = Accepted
+backer_set (Err b) = Rejected (BackerSet b.rule b.at)
 
 -- of two checks the first that refuses decides
 abbrev pub or_else : Answer → Answer → Answer

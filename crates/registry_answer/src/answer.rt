@@ -2,7 +2,7 @@
 ghost use Rattle.std.specs.Prelude.{◌≡◌};
 ghost use Rattle.registry_answer.specs.Answers.{accepts, accept_if, backer_set, or_else};
 
-use registry_error::{Answer, Membership, RegistryRejection};
+use registry_error::{Answer, Broken, RegistryRejection};
 
 pub fn accepts(answer: Answer) -> bool
     ensures { result ≡ accepts answer }
@@ -24,14 +24,12 @@ pub fn accept_if(test: bool, refusal: RegistryRejection) -> Answer
 }
 
 // The rules on lists of backers, as a check.
-pub fn backer_set(membership: Membership) -> Answer
+pub fn backer_set(membership: Result<(), Broken>) -> Answer
     ensures { result ≡ backer_set membership }
 {
     match membership {
-        Membership::Sound => Answer::Accepted,
-        Membership::Broken { rule, at } => {
-            Answer::Rejected(RegistryRejection::BackerSet { rule, at })
-        }
+        Ok(()) => Answer::Accepted,
+        Err(Broken { rule, at }) => { Answer::Rejected(RegistryRejection::BackerSet { rule, at }) }
     }
 }
 

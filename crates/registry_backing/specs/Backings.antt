@@ -1,8 +1,7 @@
 -- The rules on the backers and the toad of an authority, and its receipts (docs/RULES.md, "Receipts").
 use Rattle.std.specs.Prelude.{ℕ, ◌≤◌, ◌≡◌, List, [], ◌∷◌, Bool, cond, leb, length}
 use Rattle.cesr.specs.declared.BasicPrefix.{BasicPrefix}
-use Rattle.events.specs.Members.{check_members}
-use Rattle.events.specs.declared.Membership.{Membership}
+use Rattle.events.specs.Members.{Membership, check_members}
 use Rattle.events_toad.specs.Toads.{exact_ok}
 use Rattle.registry_verification.specs.declared.Signature.{Signature}
 use Rattle.registry_error.specs.declared.RegistryRejection.TheVariants.{BackerThreshold, MissingBackerReceipts}

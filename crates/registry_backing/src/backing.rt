@@ -8,12 +8,11 @@ ghost use Rattle.registry_backing.specs.Backings.{enough_receipts, backed_by, Ba
 
 use codec::Listed;
 use codec::section::at_most_16;
-use events::{Members, Membership};
-use events_member_set::MemberSet;
+use events::{Broken, Members};
 use events_toad::Toad;
 use registry_answer::answer::{accept_if, accepts, backer_set};
 use registry_error::{Answer, RegistryRejection};
-use registry_rotation::deltas::check_members;
+use registry_rotation::{InBytes, check_members};
 use registry_verification::Counted;
 use registry_verification::verification::valid_receipts;
 
@@ -31,7 +30,13 @@ pub fn enough_receipts(s: &[u8], signatures: Counted, backers: usize, toad: Toad
 }
 
 // The rules on backers and toad, and the receipts. Of the backers it is known only whether one stands twice, and how many there are: no rule looks at more of them.
-fn backed_by(s: &[u8], signatures: Counted, repeat: Membership, count: usize, toad: Toad) -> Answer
+fn backed_by(
+    s: &[u8],
+    signatures: Counted,
+    repeat: Result<(), Broken>,
+    count: usize,
+    toad: Toad,
+) -> Answer
     ensures { (l : List BasicPrefix) → Backs repeat count l → result ≡ backed_by toad.0 l (signatures_in s.now signatures) }
 {
     let members = backer_set(repeat);
@@ -48,7 +53,10 @@ fn backed_by(s: &[u8], signatures: Counted, repeat: Membership, count: usize, to
 pub fn backed_in(s: &[u8], signatures: Counted, held: &[u8], backers: Listed, toad: Toad) -> Answer
     ensures { result ≡ backed_by toad.0 (members_in held.now backers) (signatures_in s.now signatures) }
 {
-    let repeat = check_members(held, backers);
+    let repeat = check_members(InBytes {
+        bytes: held,
+        list: backers,
+    });
     let count = at_most_16(backers.count);
     backed_by(s, signatures, repeat, count, toad)
 }
@@ -77,7 +85,7 @@ pub fn own_of(own: bool, s: &[u8], signatures: Counted, backers: Members, toad: 
     if !own {
         return Answer::Accepted;
     }
-    let repeat = MemberSet::check_members(backers);
+    let repeat = check_members(backers.as_slice());
     let count = backers.size();
     backed_by(s, signatures, repeat, count, toad)
 }

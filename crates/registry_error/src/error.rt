@@ -1,9 +1,22 @@
 // Why an attempt is turned down, and what its sender is to do (docs/RULES.md, "Refusals").
 ghost use Rattle.std.specs.Prelude.{◌≡◌};
 ghost use Rattle.registry_error.specs.Errors.{number_of, disposition_of};
+ghost use Rattle.registry_error.specs.declared.RegistryRejection.TheVariants.{BackerSet};
 
-use crate::RegistryRejection;
+use crate::{Broken, RegistryRejection};
 use registry_disposition::{Disposition, EvidenceKind, out_of_order};
+
+// A rule on lists of backers that does not hold refuses the attempt.
+impl From<Broken> for RegistryRejection {
+    ghost from_gives = { λ b refusal. refusal ≡ BackerSet b.rule b.at };
+
+    fn from(b: Broken) -> RegistryRejection {
+        RegistryRejection::BackerSet {
+            rule: b.rule,
+            at: b.at,
+        }
+    }
+}
 
 impl RegistryRejection {
     pub fn number(self) -> u8

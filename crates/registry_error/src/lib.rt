@@ -3,7 +3,7 @@
 
 pub mod error;
 
-pub use events::Membership;
+pub use events::Broken;
 use events::Rule;
 use registry_disposition::Sn;
 

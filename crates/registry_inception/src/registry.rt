@@ -21,7 +21,7 @@ use registry_authentication::issuer::{issuer_kind, message_anchored};
 use registry_authentication::{Attempt, RegistryState};
 use registry_backing::backing::enough_receipts;
 use registry_error::{Answer, RegistryRejection};
-use registry_rotation::deltas::check_members;
+use registry_rotation::{InBytes, check_members};
 
 // Whether so many backers can meet the toad.
 pub fn threshold_fits(toad: Toad, backers: usize) -> Answer
@@ -40,7 +40,10 @@ fn list_answer(configs: Configs, backers: Listed, toad: Toad, s: &[u8]) -> Answe
     if clash {
         return Answer::Rejected(RegistryRejection::NoBackersWithBackers);
     }
-    let members = backer_set(check_members(s, backers));
+    let members = backer_set(check_members(InBytes {
+        bytes: s,
+        list: backers,
+    }));
     let threshold = threshold_fits(toad, count);
     if !accepts(members) {
         return members;

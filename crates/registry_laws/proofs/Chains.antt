@@ -5,9 +5,8 @@
 use mathlib.Core.Path.{◌≡◌, refl, ap}
 use mathlib.Core.List.{List, [], ◌∷◌}
 use mathlib.Core.Bool.{true, false≢true}
-use Rattle.events.specs.Members.{or_else}
-use Rattle.events.specs.declared.Membership.{Membership}
-use Rattle.events.specs.declared.Membership.TheVariants.{Sound, Broken}
+use Rattle.std.specs.Prelude.{Ok, Err}
+use Rattle.events.specs.Members.{Membership, sound, or_else}
 use Rattle.registry_answer.specs.Answers.{accepts, backer_set, first_of}
 use Rattle.registry_error.specs.declared.Answer.{Answer}
 use Rattle.registry.specs.Starred.{All}
@@ -18,14 +17,14 @@ unfolding first_of
 all-accept [] h = tt
 all-accept (x ∷ l) h = (or-first x (first_of l) h, all-accept l (or-second x (first_of l) h))
 
-pub set-sound : (x : Membership) → accepts (backer_set x) ≡ true → x ≡ Sound
-set-sound Sound h = refl
-set-sound (Broken rule i) h = absurd (false≢true h)
+pub set-sound : (x : Membership) → accepts (backer_set x) ≡ true → x ≡ sound
+set-sound (Ok u) h = refl
+set-sound (Err b) h = absurd (false≢true h)
 
-pub else-first : (a b : Membership) → or_else a b ≡ Sound → a ≡ Sound
-else-first Sound b h = refl
-else-first (Broken rule i) b h = h
+pub else-first : (a b : Membership) → or_else a b ≡ sound → a ≡ sound
+else-first (Ok u) b h = refl
+else-first (Err x) b h = h
 
-pub else-second : (a b : Membership) → or_else a b ≡ Sound → b ≡ Sound
-else-second Sound b h = h
-else-second (Broken rule i) b h = absurd (false≢true (ap (λ (x : Membership). accepts (backer_set x)) h))
+pub else-second : (a b : Membership) → or_else a b ≡ sound → b ≡ sound
+else-second (Ok u) b h = h
+else-second (Err x) b h = absurd (false≢true (ap (λ (x : Membership). accepts (backer_set x)) h))

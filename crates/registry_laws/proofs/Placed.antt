@@ -10,10 +10,9 @@ use mathlib.Core.Bool.{Bool, true, false, cond}
 use native.Mathlib.Omega.{arith}
 use borrow.Author.Tests.{eqb-false}
 use lib.Dec.{eqb}
-use Rattle.events.specs.Members.{check, or_else as else_set, Lists, subject, against, Offends}
+use Rattle.std.specs.Prelude.{Ok, Err}
+use Rattle.events.specs.Members.{Membership, broken, check, or_else as else_set, Lists, subject, against, Offends}
 use Rattle.events.specs.declared.Rule.{Rule}
-use Rattle.events.specs.declared.Membership.{Membership}
-use Rattle.events.specs.declared.Membership.TheVariants.{Sound, Broken}
 use Rattle.events.proofs.MemberLaws.{broken-rule, broken-below, broken-breaks}
 use Rattle.registry_answer.specs.Answers.{accept_if, backer_set, or_else, first_of}
 use Rattle.registry_error.specs.Errors.{number_of, answer_number}
@@ -25,11 +24,14 @@ use Rattle.registry.specs.Starred.{All}
 
 -- where an answer is refusal 24, the element at the position breaks the rule
 abbrev pub Placed : Lists → Answer → Type 0
-Placed s x = (rule : Rule) (i : ℕ) → x ≡ Rejected (BackerSet rule i) → Offends (Broken rule i) s
+Placed s x = (rule : Rule) (i : ℕ) → x ≡ Rejected (BackerSet rule i) → Offends (broken rule i) s
 
-set-broken : (x : Membership) (rule : Rule) (i : ℕ) → backer_set x ≡ Rejected (BackerSet rule i) → x ≡ Broken rule i
-set-broken Sound rule i e = absurd (omega (arith, ap answer_number e))
-set-broken (Broken r k) rule i e = cc
+set-broken : (x : Membership) (rule : Rule) (i : ℕ) → backer_set x ≡ Rejected (BackerSet rule i) → x ≡ broken rule i
+set-broken (Ok u) rule i e = absurd (omega (arith, ap answer_number e))
+set-broken (Err b) rule i e =
+    let r : b.rule ≡ rule = cc in
+    let p : b.at ≡ i = cc in
+    rw (← r, ← p)
 
 module _ (s : Lists) where
   pub other-placed : (x : Answer) → eqb (answer_number x) 24 ≡ false → Placed s x
@@ -61,5 +63,5 @@ module _ (s : Lists) where
       (broken-below r (subject r s) (against r s) rule i b, broken-breaks r (subject r s) (against r s) rule i b)
 
   pub else-placed : (a b : Membership) → Placed s (backer_set a) → Placed s (backer_set b) → Placed s (backer_set (else_set a b))
-  else-placed Sound b p q = q
-  else-placed (Broken r i) b p q = p
+  else-placed (Ok u) b p q = q
+  else-placed (Err x) b p q = p

@@ -12,9 +12,8 @@ use lib.Seq.{length-take-le, get_or-take}
 use Rattle.cesr.specs.declared.BasicPrefix.{BasicPrefix}
 use Rattle.cesr.specs.Primitives.{eq_prefix}
 use Rattle.cesr.proofs.Matters.{eq-prefix}
-use Rattle.events.specs.Members.{no_prefix, at, has, breaks, check, or_else, check_members, check_deltas, check_current}
+use Rattle.events.specs.Members.{no_prefix, at, has, breaks, sound, check, or_else, check_members, check_deltas, check_current}
 use Rattle.events.specs.declared.Rule.TheVariants.{DuplicateCut, DuplicateAddition, CutAddOverlap, RemovalNotCurrent, AdditionAlreadyPresent}
-use Rattle.events.specs.declared.Membership.TheVariants.{Sound}
 use Rattle.events.proofs.MemberLaws.{has-found, has-none, sound-all, sound-apart, distinct-sound}
 use Rattle.registry.specs.Starred.{All, Different}
 use Rattle.registry_members.specs.Updated.{survivors, updated_members}
@@ -55,10 +54,10 @@ different-apart (x ∷ l) d i zero p q = absurd (omega arith)
 different-apart (x ∷ l) d zero (suc j) p q = all-places (λ y. x ≢ y) l d.0 j (omega arith)
 different-apart (x ∷ l) d (suc i) (suc j) p q = different-apart l d.1 i j (omega arith) (omega arith)
 
-pub sound-different : (l : List BasicPrefix) → check_members l ≡ Sound → Different l
+pub sound-different : (l : List BasicPrefix) → check_members l ≡ sound → Different l
 sound-different l e = apart-different l (sound-apart l e)
 
-pub different-sound : (l : List BasicPrefix) → Different l → check_members l ≡ Sound
+pub different-sound : (l : List BasicPrefix) → Different l → check_members l ≡ sound
 different-sound l d = distinct-sound l (λ i b. go i b (has (at l i) (take i l)) refl)
   where
     go : (i : ℕ) → i < length l → (t : Bool) → has (at l i) (take i l) ≡ t → has (at l i) (take i l) ≡ false
@@ -82,7 +81,7 @@ different-survivors cuts (x ∷ l) d = go (has x cuts) (different-survivors cuts
     go false j = (all-survivors (λ y. x ≢ y) cuts l d.0, j)
 
 -- additions that are let through have no repeats
-additions-different : (cuts additions : List BasicPrefix) → check_deltas cuts additions ≡ Sound → Different additions
+additions-different : (cuts additions : List BasicPrefix) → check_deltas cuts additions ≡ sound → Different additions
 unfolding check_deltas breaks
 additions-different cuts additions e =
     let overlap = check CutAddOverlap cuts additions in
@@ -91,7 +90,7 @@ additions-different cuts additions e =
     sound-different additions (distinct-sound additions (sound-all DuplicateAddition additions [] s))
 
 -- and none of them is among the backers
-additions-new : (current cuts additions : List BasicPrefix) → check_current current cuts additions ≡ Sound → All (λ x. All (λ y. x ≢ y) additions) current
+additions-new : (current cuts additions : List BasicPrefix) → check_current current cuts additions ≡ sound → All (λ x. All (λ y. x ≢ y) additions) current
 unfolding check_current breaks
 additions-new current cuts additions e =
     let s = else-second (check RemovalNotCurrent cuts current) (check AdditionAlreadyPresent additions current) e in
@@ -102,7 +101,7 @@ additions-new current cuts additions e =
     let same : eq_prefix (at current i) (at additions k) ≡ true = rw q (eq-prefix (at additions k)) in
     true≢false (sym same ∙ differ)))
 
-pub updated-sound : (current cuts additions : List BasicPrefix) → check_members current ≡ Sound → check_deltas cuts additions ≡ Sound → check_current current cuts additions ≡ Sound → check_members (updated_members current cuts additions) ≡ Sound
+pub updated-sound : (current cuts additions : List BasicPrefix) → check_members current ≡ sound → check_deltas cuts additions ≡ sound → check_current current cuts additions ≡ sound → check_members (updated_members current cuts additions) ≡ sound
 unfolding updated_members
 updated-sound current cuts additions s d c =
     different-sound (survivors cuts current ++ additions)

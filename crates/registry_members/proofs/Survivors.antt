@@ -1,18 +1,17 @@
 -- Laws of the members after a rotation.
-use Prim.Native.Nat.{ℕ, suc, ◌+◌, ◌<◌, ◌≤◌}
+use Prim.Native.Nat.{ℕ, zero, suc, ◌+◌, ◌<◌, ◌≤◌}
 use mathlib.Core.Path.{◌≡◌, refl, ap}
-use mathlib.Core.List.{List, [], ◌∷◌, ◌++◌, append_assoc}
+use mathlib.Core.List.{List, [], ◌∷◌, ◌++◌}
 use mathlib.Core.Bool.{Bool, true, false, cond}
 use native.Mathlib.Omega.{arith}
-use native.Mathlib.Numerals.{add-one}
-use lib.ListN.{length, take}
+use borrow.Author.Tests.{lt-leb}
+use lib.Dec.{leb}
+use lib.ListN.{length, length-append, take}
+use lib.Seq.{length-take-le}
 use Rattle.laws.proofs.Views.{take_step}
 use Rattle.cesr.specs.declared.BasicPrefix.{BasicPrefix}
 use Rattle.events.specs.Members.{has, at, no_prefix}
-use Rattle.codec_cursor.specs.declared.Cursor.{Cursor}
-use Rattle.codec_cursor.specs.Readers.{Reader, times}
-use Rattle.codec_cursor.specs.declared.Read.{Read}
-use Rattle.registry_members.specs.Updated.{survivors}
+use Rattle.registry_members.specs.Updated.{survivors, updated_members}
 
 pub survivors-snoc : (cuts a : List BasicPrefix) (x : BasicPrefix) → survivors cuts (a ++ (x ∷ [])) ≡ cond (has x cuts) (survivors cuts a) (survivors cuts a ++ (x ∷ []))
 unfolding survivors
@@ -38,8 +37,26 @@ survivors-fewer cuts (x ∷ l) = go (has x cuts) (survivors-fewer cuts l)
     go true h = omega arith
     go false h = omega arith
 
--- one element more is read, behind others
-module _ {A : Type 0} (p : Reader A) (s : List ℕ) (c : Cursor) where
-  pub times-behind : (a : List A) (i : ℕ) (d : Cursor) (r : Read A) → d ≡ (times i p s c).next → r ≡ p s d → (a ++ (times i p s c).value) ++ (r.value ∷ []) ≡ a ++ (times (i + 1) p s c).value
-  unfolding times
-  times-behind a i d r e f = rw (add-one, ← e, ← f) (append_assoc a (times i p s c).value (r.value ∷ []))
+-- of fewer members no more survive
+pub survivors-front : (cuts l : List BasicPrefix) (i : ℕ) → length (survivors cuts (take i l)) ≤ length (survivors cuts l)
+unfolding survivors
+survivors-front cuts l zero = omega arith
+survivors-front cuts [] (suc i) = omega arith
+survivors-front cuts (x ∷ l) (suc i) = go (has x cuts) (survivors-front cuts l i)
+  where
+    go : (t : Bool) → length (survivors cuts (take i l)) ≤ length (survivors cuts l) → length (cond t (survivors cuts (take i l)) (x ∷ survivors cuts (take i l))) ≤ length (cond t (survivors cuts l) (x ∷ survivors cuts l))
+    go true h = h
+    go false h = omega arith
+
+-- where there is no room for a survivor, or for an addition behind them, there are more than 16 members
+module _ (l cuts additions : List BasicPrefix) where
+  pub no_room-survivor : (i : ℕ) → i < length l → has (at l i) cuts ≡ false → 16 ≤ length (survivors cuts (take i l)) → leb (length (updated_members l cuts additions)) 16 ≡ false
+  unfolding updated_members
+  no_room-survivor i b h full =
+      let more : length (survivors cuts (take (i + 1) l)) ≡ length (survivors cuts (take i l)) + 1 = rw (survivors-step cuts l i b, h) (length-append (survivors cuts (take i l)) (at l i ∷ [])) in
+      lt-leb (length (survivors cuts l ++ additions)) 16 (omega (arith, more, survivors-front cuts l (i + 1), length-append (survivors cuts l) additions))
+
+  pub no_room-addition : (k : ℕ) → k < length additions → 16 ≤ length (survivors cuts l ++ take k additions) → leb (length (updated_members l cuts additions)) 16 ≡ false
+  unfolding updated_members
+  no_room-addition k b full =
+      lt-leb (length (survivors cuts l ++ additions)) 16 (omega (arith, length-append (survivors cuts l) additions, length-append (survivors cuts l) (take k additions), length-take-le k additions (omega arith)))

@@ -1,53 +1,34 @@
 // The members after a rotation (docs/RULES.md, "Lists of backers").
-ghost use Rattle.std.specs.Prelude.{◌≡◌, cond, ◌≤◌, length, leb};
+ghost use Rattle.std.specs.Prelude.{◌≡◌, ◌≤◌, length, leb, is_ok, IfOk};
 ghost use Rattle.events.specs.Members.{view};
-ghost use Rattle.codec.specs.TelEvents.{members_in};
 ghost use Rattle.registry_members.specs.Updated.{updated_members};
 
-use crate::Updated;
-use cesr::{BasicPrefix, Matter};
-use codec::Listed;
-use codec::section::at_most_16;
-use events::Members;
-use registry_rotation::deltas::found_in;
+use cesr::BasicPrefix;
+use events::{Members, NoRoom};
+use events_member_set::member_set::Prefixes;
 
-// Survivors in their order, then additions in theirs. Where there are more than 16 the current list comes back.
-// The two loops are in one function, since a list is copied at every call.
-pub fn updated_members(s: &[u8], current: Members, cuts: Listed, additions: Listed) -> Updated
-    ensures ok { result.ok ≡ leb (length (updated_members (view current) (members_in s.now cuts) (members_in s.now additions))) 16 }
-    ensures list { view result.members ≡ cond result.ok (updated_members (view current) (members_in s.now cuts) (members_in s.now additions)) (view current) }
-    ensures count { result.members.count ≤ 16 }
+// Survivors in their order, then additions in theirs. There is no such list where there are more than 16.
+pub fn updated_members<L: Prefixes>(
+    current: &[BasicPrefix],
+    cuts: L,
+    additions: L,
+) -> Result<Members, NoRoom>
+    ensures ok { is_ok result ≡ leb (length (updated_members current.now (L.list cuts) (L.list additions))) 16 }
+    ensures list { IfOk result (λ m. view m ≡ updated_members current.now (L.list cuts) (L.list additions)) }
+    ensures count { IfOk result (λ m. m.count ≤ 16) }
 {
-    let n = at_most_16(current.count);
-    let out = at_most_16(cuts.count);
-    let more = at_most_16(additions.count);
-    let none = BasicPrefix(Matter::none());
-    let mut items = [none; 16];
-    let mut count: usize = 0;
-    let mut i: usize = 0;
-    while i < n {
-        let p = current.items[i];
-        let cut = found_in(s, cuts.start, out, p);
-        i += 1;
-        if !cut {
-            items[count] = p;
-            count += 1;
+    let mut members = Members::empty();
+    for p in current {
+        if cuts.has(*p) {
+            continue;
         }
+        members.push(*p)?;
     }
-    if 16 < count + more {
-        let members = current.trimmed();
-        return Updated { ok: false, members };
+    let mut rest = additions;
+    for _ in 0..additions.size() {
+        let next = rest.split();
+        members.push(next.0)?;
+        rest = next.1;
     }
-    let mut c = additions.start;
-    let mut j: usize = 0;
-    while j < more {
-        let r = c.prefix(s);
-        let addition = r.value;
-        items[count] = addition;
-        count += 1;
-        c = r.next;
-        j += 1;
-    }
-    let members = Members { items, count };
-    Updated { ok: true, members }
+    Ok(members)
 }

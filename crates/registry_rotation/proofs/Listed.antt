@@ -1,24 +1,27 @@
--- Lists that stay in the bytes, and the rules on them.
+-- Lists that stay in the bytes.
 --     times-front, times-at               the first of the elements that are read, and one of them
+--     times-turned, times-behind, times-nothing
+--                                         the first of them, and those behind it
 --     all_listed                          a list that stays in the bytes, by its size
---     listed_at, has_more                 a prefix that a loop reads, and one prefix more that is looked at
---     breaks-is, listed-breaks, current-breaks
---                                         whether a place breaks a rule, by what its element is held against
-use Prim.Native.Nat.{ℕ, zero, suc, ◌+◌, ◌<◌, ◌≤◌, min}
-use mathlib.Core.Path.{◌≡◌, refl, ap, ◌∙◌}
-use mathlib.Core.Bool.{Bool, true, false, cond, not, ◌||◌, or-false}
-use mathlib.Core.List.{List, [], ◌∷◌}
+--     listed-size, listed-head, listed-tail, listed-front
+--                                         how long it is, its first prefix, those behind it, and the first of them
+--     counted_listed                      the same list, by its length
+--     has_more, found_listed              one prefix more that is looked at, and one that is found
+use Prim.Native.Nat.{ℕ, zero, suc, ◌+◌, ◌<◌, ◌≤◌, ◌-◌, min}
+use mathlib.Core.Path.{◌≡◌, refl, ap, sym, ◌∙◌}
+use mathlib.Core.Bool.{Bool, true, false, ◌||◌, or-false}
+use mathlib.Core.List.{List, [], ◌∷◌, ◌++◌}
 use native.Mathlib.Omega.{arith}
 use native.Mathlib.Numerals.{add-one}
 use native.Mathlib.Decide.{ℕ_discrete}
-use lib.ListN.{take, get_or, get_or-append}
+use borrow.Author.Tests.{ltb-true, ltb-false}
+use lib.Dec.{ltb}
+use lib.ListN.{length, take, drop, get_or, get_or-append}
 use lib.Seq.{take_all, take-append-le, get_or_at}
 use Rattle.cesr.specs.declared.BasicPrefix.{BasicPrefix}
 use Rattle.cesr.specs.Primitives.{read_matter, eq_matter}
-use Rattle.events.specs.declared.Rule.{Rule}
-use Rattle.events.specs.declared.Rule.TheVariants.{DuplicateBacker, DuplicateCut, DuplicateAddition, CutAddOverlap, RemovalNotCurrent, AdditionAlreadyPresent}
-use Rattle.events.specs.Members.{at, no_prefix, has, breaks, is_repeat, is_missing}
-use Rattle.events.proofs.MemberLaws.{has-append}
+use Rattle.events.specs.Members.{at, no_prefix, has}
+use Rattle.events.proofs.MemberLaws.{has-append, has-at}
 use Rattle.codec.specs.declared.Listed.{Listed}
 use Rattle.codec.specs.TelEvents.{members_in}
 use Rattle.codec.specs.declared.Cursor.{Cursor}
@@ -47,14 +50,63 @@ module _ {A : Type 0} (p : Reader A) (s : List ℕ) (c : Cursor) where
       go (yes e) less = rw e (get_or_at (times n p s c).value _ [] d n (length-times p s c n))
       go (no h) less = get_or-append (times n p s c).value _ d i (omega (arith, length-times p s c n)) ∙ less (omega arith)
 
+  -- the first of the elements that are read, and those behind it
+  pub times-turned : (n : ℕ) → times (suc n) p s c ≡ record { value = (p s c).value ∷ (times n p s (p s c).next).value; next = (times n p s (p s c).next).next }
+  unfolding times
+  times-turned zero = refl
+  times-turned (suc n) = ap (λ (r : Read (List A)). record { value = r.value ++ ((p s r.next).value ∷ []); next = (p s r.next).next }) (times-turned n)
+
+  pub times-behind : (n : ℕ) → drop 1 (times (suc n) p s c).value ≡ (times n p s (p s c).next).value
+  times-behind n = rw (times-turned n)
+
+  pub times-nothing : (d : Cursor) → drop 1 (times zero p s c).value ≡ (times zero p s d).value
+  unfolding times
+  times-nothing d = refl
+
 -- a list that stays in the bytes, by its size
 pub all_listed : (s : List ℕ) (l : Listed) (n : ℕ) → n ≡ min l.count 16 → members_in s l ≡ (times n read_prefix s l.start).value
 unfolding members_in
 all_listed s l n e = rw e
 
--- the prefix that a loop reads behind i others is the one at i
-pub listed_at : (s : List ℕ) (l : Cursor) (n i : ℕ) (c : Cursor) (r : Read BasicPrefix) → i < n → c ≡ (times i read_prefix s l).next → r ≡ read_prefix s c → at (times n read_prefix s l).value i ≡ r.value
-listed_at s l n i c r b e f = times-at read_prefix s l n i no_prefix b ∙ rw (← e, ← f)
+module _ (s : List ℕ) (l : Listed) where
+  pub listed-size : (n : ℕ) → n ≡ min l.count 16 → n ≡ length (members_in s l)
+  listed-size n e = rw (all_listed s l n e) (sym (length-times read_prefix s l.start n))
+
+  pub counted_listed : (n : ℕ) → n ≡ length (members_in s l) → members_in s l ≡ (times n read_prefix s l.start).value
+  counted_listed n e = all_listed s l n (e ∙ sym (listed-size (min l.count 16) refl))
+
+  pub listed-head : 0 < length (members_in s l) → (read_prefix s l.start).value ≡ at (members_in s l) 0
+  unfolding members_in times
+  listed-head b =
+      let n = min l.count 16 in
+      sym (times-at read_prefix s l.start n 0 no_prefix (omega (arith, b, length-times read_prefix s l.start n)))
+
+  pub listed-tail : (k : ℕ) (next : Cursor) → k ≡ length (members_in s l) - 1 → next ≡ (read_prefix s l.start).next → members_in s (record { count = k; start = next }) ≡ drop 1 (members_in s l)
+  unfolding members_in
+  listed-tail k next e f = go (min l.count 16) refl
+    where
+      go : (n : ℕ) → n ≡ min l.count 16 → (times (min k 16) read_prefix s next).value ≡ drop 1 (times n read_prefix s l.start).value
+      go zero g =
+          let z : min k 16 ≡ 0 = omega (arith, e, listed-size zero g) in
+          rw z (sym (times-nothing read_prefix s l.start next))
+      go (suc n) g =
+          let z : min k 16 ≡ n = omega (arith, e, listed-size (suc n) g) in
+          rw (z, f) (sym (times-behind read_prefix s l.start n))
+
+  pub listed-front : (n k : ℕ) → k ≡ min l.count n → members_in s (record { count = k; start = l.start }) ≡ take n (members_in s l)
+  unfolding members_in
+  listed-front n k e = go (ltb n (min l.count 16)) refl
+    where
+      go : (t : Bool) → ltb n (min l.count 16) ≡ t → (times (min k 16) read_prefix s l.start).value ≡ take n (times (min l.count 16) read_prefix s l.start).value
+      go true f =
+          let b : n < min l.count 16 = ltb-true n (min l.count 16) f in
+          let z : min k 16 ≡ n = omega arith in
+          rw z (sym (times-front read_prefix s l.start (min l.count 16) n (omega arith)))
+      go false f =
+          let m = min l.count 16 in
+          let b : m ≤ n = ltb-false n m f in
+          let z : min k 16 ≡ m = omega arith in
+          rw z (sym (take_all n (times m read_prefix s l.start).value (omega (arith, length-times read_prefix s l.start m))))
 
 -- one prefix more is looked at, where it stands
 pub has_more : (s : List ℕ) (start c : Cursor) (i : ℕ) (x : BasicPrefix) (found same : Bool) → c ≡ (times i read_prefix s start).next → found ≡ has x (times i read_prefix s start).value → same ≡ eq_matter (read_matter s c.at) x.0 → (found || same) ≡ has x (times (i + 1) read_prefix s start).value
@@ -62,28 +114,8 @@ unfolding times has read_prefix read_if
 has_more s start c i x found same e g h =
     rw (add-one, has-append x (times i read_prefix s start).value ((read_prefix s (times i read_prefix s start).next).value ∷ []), ← e, ← g, ← h, or-false same)
 
--- whether a place breaks a rule, by what its element is held against
-pub breaks-is : (r : Rule) (l o : List BasicPrefix) (i : ℕ) → breaks r l o i ≡ cond (is_missing r) (not (has (at l i) (cond (is_repeat r) (take i l) o))) (has (at l i) (cond (is_repeat r) (take i l) o))
-unfolding breaks
-breaks-is DuplicateBacker l o i = refl
-breaks-is DuplicateCut l o i = refl
-breaks-is DuplicateAddition l o i = refl
-breaks-is CutAddOverlap l o i = refl
-breaks-is RemovalNotCurrent l o i = refl
-breaks-is AdditionAlreadyPresent l o i = refl
-
--- the same of a place in the bytes, whose element is held against n prefixes in bytes, and for a repeat against those before it
-module _ (s u : List ℕ) (rule : Rule) (repeat missing : Bool) (e : is_repeat rule ≡ repeat) (m : is_missing rule ≡ missing) (l o : Cursor) (n : ℕ) (same : repeat ≡ true → (u ≡ s) × (o ≡ l)) where
-  pub listed-breaks : (size i : ℕ) (c : Cursor) (r : Read BasicPrefix) (end : ℕ) (found t : Bool) → i < size → c ≡ (times i read_prefix s l).next → r ≡ read_prefix s c → end ≡ cond repeat i n → found ≡ has r.value (times end read_prefix u o).value → t ≡ cond missing (not found) found → breaks rule (times size read_prefix s l).value (cond repeat [] (times n read_prefix u o).value) i ≡ t
-  listed-breaks size i c r end found t b f g h k q =
-      let w : has r.value (cond repeat (take i (times size read_prefix s l).value) (cond repeat [] (times n read_prefix u o).value)) ≡ found = ap (has r.value) (go repeat same) ∙ rw (k, h) in
-      breaks-is rule (times size read_prefix s l).value (cond repeat [] (times n read_prefix u o).value) i ∙ rw (m, e, listed_at s l size i c r b f g, w, q)
-    where
-      go : (t : Bool) → (t ≡ true → (u ≡ s) × (o ≡ l)) → cond t (take i (times size read_prefix s l).value) (cond t [] (times n read_prefix u o).value) ≡ (times (cond t i n) read_prefix u o).value
-      go true q = rw ((q refl).0, (q refl).1) (times-front read_prefix s l size i (omega arith))
-      go false q = refl
-
--- and of a place in the bytes, whose element is held against the current members
-pub current-breaks : (s : List ℕ) (rule : Rule) (missing : Bool) → is_repeat rule ≡ false → is_missing rule ≡ missing → (l : Cursor) (o : List BasicPrefix) (size i : ℕ) (c : Cursor) (r : Read BasicPrefix) (found t : Bool) → i < size → c ≡ (times i read_prefix s l).next → r ≡ read_prefix s c → found ≡ has r.value o → t ≡ cond missing (not found) found → breaks rule (times size read_prefix s l).value o i ≡ t
-current-breaks s rule missing e m l o size i c r found t b f g h k =
-    breaks-is rule (times size read_prefix s l).value o i ∙ rw (e, m, listed_at s l size i c r b f g, k, h)
+-- and found, where it stands before the end
+pub found_listed : (s : List ℕ) (start c : Cursor) (n i : ℕ) (x : BasicPrefix) → i < n → c ≡ (times i read_prefix s start).next → eq_matter (read_matter s c.at) x.0 ≡ true → has x (times n read_prefix s start).value ≡ true
+unfolding read_prefix read_if
+found_listed s start c n i x b e h =
+    has-at x (times n read_prefix s start).value i (rw (length-times read_prefix s start n) b) (rw (times-at read_prefix s start n i no_prefix b, ← e) h)

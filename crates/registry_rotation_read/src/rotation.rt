@@ -23,7 +23,7 @@ use registry_error::{Answer, RegistryRejection};
 use registry_inception::registry::threshold_fits;
 use registry_management::Management;
 use registry_room::next::surviving;
-use registry_rotation::deltas::{check_current_in, check_deltas};
+use registry_rotation::{InBytes, check_current, check_deltas};
 use registry_signatures::Counted;
 use registry_verification::sequence::next_sn;
 use registry_wire::Attempt;
@@ -40,11 +40,23 @@ fn members_answer(
 ) -> Answer
     ensures { result ≡ vrt_backers (members_in held.now current) toad.0 (members_in s.now cuts) (members_in s.now additions) (signatures_in s.now signatures) }
 {
-    let deltas = backer_set(check_deltas(s, cuts, additions));
+    let cut = InBytes {
+        bytes: s,
+        list: cuts,
+    };
+    let added = InBytes {
+        bytes: s,
+        list: additions,
+    };
+    let deltas = backer_set(check_deltas(cut, added));
     if !accepts(deltas) {
         return deltas;
     }
-    let members = backer_set(check_current_in(held, current, s, cuts, additions));
+    let now = InBytes {
+        bytes: held,
+        list: current,
+    };
+    let members = backer_set(check_current(now, cut, added));
     if !accepts(members) {
         return members;
     }

@@ -4,4 +4,4 @@ use Rattle.events.proofs.Members.empty.Goals as goal
 
 pub returns : goal.returns
 unfolding view
-returns c = refl
+returns c = (refl, refl)

@@ -6,5 +6,5 @@ use Rattle.events.proofs.Members.trimmed.Goals as goal
 pub returns : goal.returns
 unfolding view
 returns c =
-    let m = c.args.self in
-    (rw c.size-count.ensures.value (take_counted m.count m.items), omega (arith, c.size-count.ensures.value, c.size-count.ensures.self_len_bound))
+    let m = c.args.self.now in
+    (rw c.size.ensures.value (take_counted m.count m.items), omega arith)

@@ -13,4 +13,4 @@ returns c =
     let n = min q.backers.count 16 in
     let long = length-times read_prefix q.held.now q.backers.start n in
     c.backed_by.ensures (members_in q.held.now q.backers)
-    record { members = c.check_members-repeat.ensures; count = c.at_most_16-count.ensures ∙ sym long; few = rw long (omega arith) }
+    record { members = c.check_members-repeat.ensures.answer; count = c.at_most_16-count.ensures ∙ sym long; few = rw long (omega arith) }

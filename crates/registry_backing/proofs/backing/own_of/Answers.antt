@@ -1,5 +1,6 @@
 use borrow.Author.Tests.{not-true, not-false}
-use Rattle.events.specs.Members.{view}
+use mathlib.Core.Path.{ap, ◌∙◌}
+use Rattle.events.specs.Members.{view, check_members}
 use Rattle.registry_backing.specs.Backings.{own_where}
 use Rattle.registry_backing.proofs.backing.own_of.Goals as goal
 
@@ -12,4 +13,4 @@ unfolding own_where
 returns c =
     let q = c.args in
     rw (not-false q.own c.if-not-own.false-raw)
-    (c.backed_by.ensures (view q.backers) record { members = c.check_members-repeat.ensures.answer; count = c.size-count.ensures.value; few = c.size-count.ensures.self_len_bound })
+    (c.backed_by.ensures (view q.backers) record { members = c.check_members-repeat.ensures.answer ∙ ap check_members c.as_slice.ensures.value; count = c.size-count.ensures.value; few = c.size-count.ensures.self_len_bound })

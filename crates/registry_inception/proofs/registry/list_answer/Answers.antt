@@ -12,9 +12,9 @@ returns-then-clash c =
 pub returns-then-not-accepts : goal.returns-then-not-accepts
 returns-then-not-accepts c =
     let z = c.args in
-    members-decide z.s.now z.configs z.backers z.toad c.no_backers.result c.at_most_16-count.result c.no_backers.ensures c.at_most_16-count.ensures c.if-clash.false c.backer_set-members.result (c.backer_set-members.ensures ∙ ap backer_set c.check_members.ensures) _ c.accepts.ensures (not-true _ c.if-not-accepts.true-raw)
+    members-decide z.s.now z.configs z.backers z.toad c.no_backers.result c.at_most_16-count.result c.no_backers.ensures c.at_most_16-count.ensures c.if-clash.false c.backer_set-members.result (c.backer_set-members.ensures ∙ ap backer_set c.check_members.ensures.answer) _ c.accepts.ensures (not-true _ c.if-not-accepts.true-raw)
 
 pub returns : goal.returns
 returns c =
     let z = c.args in
-    threshold-decides z.s.now z.configs z.backers z.toad c.no_backers.result c.at_most_16-count.result c.no_backers.ensures c.at_most_16-count.ensures c.if-clash.false c.backer_set-members.result (c.backer_set-members.ensures ∙ ap backer_set c.check_members.ensures) _ c.accepts.ensures (not-false _ c.if-not-accepts.false-raw) c.threshold_fits-threshold.result c.threshold_fits-threshold.ensures
+    threshold-decides z.s.now z.configs z.backers z.toad c.no_backers.result c.at_most_16-count.result c.no_backers.ensures c.at_most_16-count.ensures c.if-clash.false c.backer_set-members.result (c.backer_set-members.ensures ∙ ap backer_set c.check_members.ensures.answer) _ c.accepts.ensures (not-false _ c.if-not-accepts.false-raw) c.threshold_fits-threshold.result c.threshold_fits-threshold.ensures

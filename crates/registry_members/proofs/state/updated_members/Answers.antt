@@ -1,120 +1,90 @@
-use Prim.Native.Nat.{◌+◌, ◌-◌, ◌<◌}
-use mathlib.Core.Path.{◌≡◌, refl, ap, sym, ◌∙◌}
-use mathlib.Core.Bool.{true, false}
-use mathlib.Core.List.{◌++◌, append-nil}
-use native.Mathlib.Omega.{arith}
-use lib.ListN.{length, take, length-set, length-append}
-use lib.Seq.{take_all, length-take-le}
-use borrow.Author.Rules.{rules}
-use borrow.Author.Tests.{not-true, not-false, le-leb, lt-leb}
-use Rattle.laws.proofs.Views.{length-mapped}
-use Rattle.events.specs.Members.{view, at, has}
-use Rattle.events.proofs.MemberLaws.{view-size, view-at}
-use Rattle.codec.specs.TelEvents.{members_in}
-use Rattle.codec.proofs.Loops.{times-next, view-put}
-use Rattle.codec_cursor.specs.Readers.{read_prefix, times}
+use Rattle.std.proofs.Common.{◌≡◌, ◌∙◌, ap, sym, arith, rules, is_ok, length, take, ◌++◌, ◌∷◌, []}
+use Rattle.std.proofs.lemmas.Result.{err_from_is_err_and}
+use lib.Seq.{take_all}
+use mathlib.Core.List.{append-nil, append_assoc}
+use borrow.Author.Tests.{le-leb}
+use Rattle.laws.proofs.Views.{take_step}
+use Rattle.events.specs.Members.{view, at, no_prefix}
+use Rattle.events.proofs.MemberLaws.{push-done, push_full, view-counted, walk-head, walk-tail}
 use Rattle.registry_members.specs.Updated.{survivors, updated_members}
-use Rattle.codec.proofs.Loops.{length-times}
-use Rattle.registry_rotation.proofs.Listed.{all_listed}
-use Rattle.registry_members.proofs.Survivors.{survivors-step, times-behind}
+use Rattle.registry_members.proofs.Survivors.{survivors-step, no_room-survivor, no_room-addition}
 use Rattle.registry_members.proofs.state.updated_members.Goals as goal
 
-pub loop-i-init : goal.loop-i-init
+pub loop-p-init : goal.loop-p-init
 unfolding survivors
-loop-i-init c = (search rules, refl, search rules, refl)
+loop-p-init g c = record { list = c.empty-members.ensures.0; count = omega arith }
 
-pub loop-i-preserved-then-not-cut : goal.loop-i-preserved-then-not-cut
-loop-i-preserved-then-not-cut c =
-    let full : (length c.args.current.items ≡ 16) =
-    search length-mapped in
-    let counted : (length (view c.args.current) ≡ c.at_most_16-n.result) =
-    view-size c.args.current (full) ∙ sym c.at_most_16-n.ensures in
-    let l = c.loop-i in
-    let cuts = (times c.at_most_16-out.result read_prefix c.args.s.now c.args.cuts.start).value in
-    let h : l.i < length (view c.args.current) = omega (arith, counted) in
-    let x = view-at c.args.current (full) l.i h in
-    let e : has (at (view c.args.current) l.i) cuts ≡ false = rw (← x, ← c.found_in-cut.ensures) (not-true _ c.if-not-cut.true-raw) in (
-      search rules,
-      rw (survivors-step cuts (view c.args.current) l.i h, e) (view-put l.items l.count _ l.invariant.3 (omega (arith, c.at_most_16-n.ensures)) ∙ rw (l.invariant.1, x)),
-      search rules,
-      length-set l.items l.count _ ∙ l.invariant.3,
-    )
+pub loop-p-preserved-then-has : goal.loop-p-preserved-then-has
+loop-p-preserved-then-has g c =
+    let l = c.args.current.now in
+    let cuts = g.L.Prefixes.list c.args.cuts in
+    let f = c.loop-p in
+    record {
+      list = f.invariant.list ∙ sym (survivors-step cuts l f.p-index c.loop-p-test.true ∙ rw (← c.has.ensures, c.if-has.true));
+      count = f.invariant.count;
+    }
 
-pub loop-i-preserved : goal.loop-i-preserved
-loop-i-preserved c =
-    let full : (length c.args.current.items ≡ 16) =
-    search length-mapped in
-    let counted : (length (view c.args.current) ≡ c.at_most_16-n.result) =
-    view-size c.args.current (full) ∙ sym c.at_most_16-n.ensures in
-    let l = c.loop-i in
-    let cuts = (times c.at_most_16-out.result read_prefix c.args.s.now c.args.cuts.start).value in
-    let h : l.i < length (view c.args.current) = omega (arith, counted) in
-    let x = view-at c.args.current (full) l.i h in
-    let e : has (at (view c.args.current) l.i) cuts ≡ true = rw (← x, ← c.found_in-cut.ensures) (not-false _ c.if-not-cut.false-raw) in
-    (search rules, rw (survivors-step cuts (view c.args.current) l.i h, e) l.invariant.1, search rules, l.invariant.3)
+pub returns-in_err-push-clause-ok : goal.returns-in_err-push-clause-ok
+returns-in_err-push-clause-ok g c =
+    let l = c.args.current.now in
+    let cuts = g.L.Prefixes.list c.args.cuts in
+    let additions = g.L.Prefixes.list c.args.additions in
+    let f = c.loop-p in
+    let w = err_from_is_err_and _ c.from_residual.ensures.1 in
+    ap is_ok w.1 ∙ sym (no_room-survivor l cuts additions f.p-index c.loop-p-test.true (sym c.has.ensures ∙ c.if-has.false) (rw f.invariant.list at (push_full _ c.in_err-push.ensures.ok)))
 
-pub returns-then-count-more-gt16 : goal.returns-then-count-more-gt16
-unfolding updated_members
-returns-then-count-more-gt16 c =
-    let full : (length c.args.current.items ≡ 16) =
-    search length-mapped in
-    let counted : (length (view c.args.current) ≡ c.at_most_16-n.result) =
-    view-size c.args.current (full) ∙ sym c.at_most_16-n.ensures in
-    let kept : ((take c.loop-i.count c.loop-i.items ≡ survivors (members_in c.args.s.now c.args.cuts) (view c.args.current)) × (length (survivors (members_in c.args.s.now c.args.cuts) (view c.args.current)) ≡ c.loop-i.count)) =
-    let l = c.loop-i in
-    let z = c.args in
-    let cuts = members_in z.s.now z.cuts in
-    let e : take l.count l.items ≡ survivors cuts (view z.current) =
-    l.invariant.1
-    ∙ rw (all_listed z.s.now z.cuts _ c.at_most_16-out.ensures)
-    (ap (survivors _) (take_all l.i (view z.current) (omega (arith, counted)))) in
-    (e, sym (ap length e) ∙ length-take-le l.count l.items (omega (arith, l.invariant.2, l.invariant.3, c.at_most_16-n.ensures))) in
-    let summed : (length (survivors (members_in c.args.s.now c.args.cuts) (view c.args.current) ++ members_in c.args.s.now c.args.additions) ≡ c.loop-i.count + c.at_most_16-more.result) =
-    let z = c.args in
-    let n = c.at_most_16-more in
-    length-append (survivors (members_in z.s.now z.cuts) (view z.current)) (members_in z.s.now z.additions)
-    ∙ rw ((kept).1, all_listed z.s.now z.additions _ n.ensures, length-times read_prefix z.s.now z.additions.start n.result) in
-    let z = c.args in
-    record { ok = sym (lt-leb (length (survivors (members_in z.s.now z.cuts) (view z.current) ++ members_in z.s.now z.additions)) 16 (omega (arith, summed))); list = c.trimmed-members.ensures.0; count = c.trimmed-members.ensures.1 }
+pub loop-p-preserved : goal.loop-p-preserved
+loop-p-preserved g c =
+    let l = c.args.current.now in
+    let cuts = g.L.Prefixes.list c.args.cuts in
+    let f = c.loop-p in
+    record {
+      list = push-done _ _ _ c.in_ok-push.ensures.ok c.push.ensures.list ∙ rw f.invariant.list (sym (survivors-step cuts l f.p-index c.loop-p-test.true ∙ rw (← c.has.ensures, c.if-has.false)));
+      count = c.push.ensures.count f.invariant.count;
+    }
 
-pub loop-j-init : goal.loop-j-init
-unfolding times
-loop-j-init c = (search rules, sym (append-nil _), refl, omega arith, c.loop-i.invariant.3)
+pub loop-init : goal.loop-init
+loop-init g c =
+    let f = c.loop-p in
+    let cuts = g.L.Prefixes.list c.args.cuts in
+    record {
+      rest = search rules;
+      list = f.invariant.list ∙ ap (survivors cuts) (take_all f.p-index c.args.current.now (omega arith)) ∙ sym (append-nil _);
+      count = f.invariant.count;
+    }
 
-pub loop-j-preserved : goal.loop-j-preserved
-loop-j-preserved c =
-    let l = c.loop-j in
-    let k = c.loop-i in
-    let z = c.args in (
-      search rules,
-      view-put l.items l.count _ l.invariant.4 (omega arith) ∙ rw l.invariant.1 (times-behind read_prefix z.s.now z.additions.start (take k.count k.items) l.j _ _ l.invariant.2 c.prefix-r.ensures),
-      times-next read_prefix _ _ _ _ _ l.invariant.2 c.prefix-r.ensures,
-      omega (arith, l.invariant.3),
-      length-set l.items l.count _ ∙ l.invariant.4,
-    )
+pub returns-in_err-push-2-clause-ok : goal.returns-in_err-push-2-clause-ok
+returns-in_err-push-2-clause-ok g c =
+    let l = c.args.current.now in
+    let cuts = g.L.Prefixes.list c.args.cuts in
+    let additions = g.L.Prefixes.list c.args.additions in
+    let f = c.loop in
+    let w = err_from_is_err_and _ c.from_residual-in_err-push-2.ensures.1 in
+    ap is_ok w.1 ∙ sym (no_room-addition l cuts additions f.counter (omega arith) (rw f.invariant.list at (push_full _ c.in_err-push-2.ensures.ok)))
+
+pub loop-preserved : goal.loop-preserved
+loop-preserved g c =
+    let l = c.args.current.now in
+    let cuts = g.L.Prefixes.list c.args.cuts in
+    let additions = g.L.Prefixes.list c.args.additions in
+    let f = c.loop in
+    let x = walk-head additions _ f.counter _ (omega arith) f.invariant.rest c.split-next.ensures.head in
+    record {
+      rest = walk-tail additions _ _ f.counter f.invariant.rest c.split-next.ensures.tail;
+      list = push-done _ _ _ c.in_ok-push-2.ensures.ok c.push-in-loop.ensures.list ∙ rw (f.invariant.list, x, take_step additions f.counter no_prefix (omega arith)) (append_assoc (survivors cuts l) (take f.counter additions) (at additions f.counter ∷ []));
+      count = c.push-in-loop.ensures.count f.invariant.count;
+    }
 
 pub returns : goal.returns
-unfolding updated_members view
-returns c =
-    let full : (length c.args.current.items ≡ 16) =
-    search length-mapped in
-    let counted : (length (view c.args.current) ≡ c.at_most_16-n.result) =
-    view-size c.args.current (full) ∙ sym c.at_most_16-n.ensures in
-    let kept : ((take c.loop-i.count c.loop-i.items ≡ survivors (members_in c.args.s.now c.args.cuts) (view c.args.current)) × (length (survivors (members_in c.args.s.now c.args.cuts) (view c.args.current)) ≡ c.loop-i.count)) =
-    let l = c.loop-i in
-    let z = c.args in
-    let cuts = members_in z.s.now z.cuts in
-    let e : take l.count l.items ≡ survivors cuts (view z.current) =
-    l.invariant.1
-    ∙ rw (all_listed z.s.now z.cuts _ c.at_most_16-out.ensures)
-    (ap (survivors _) (take_all l.i (view z.current) (omega (arith, counted)))) in
-    (e, sym (ap length e) ∙ length-take-le l.count l.items (omega (arith, l.invariant.2, l.invariant.3, c.at_most_16-n.ensures))) in
-    let summed : (length (survivors (members_in c.args.s.now c.args.cuts) (view c.args.current) ++ members_in c.args.s.now c.args.additions) ≡ c.loop-i.count + c.at_most_16-more.result) =
-    let z = c.args in
-    let n = c.at_most_16-more in
-    length-append (survivors (members_in z.s.now z.cuts) (view z.current)) (members_in z.s.now z.additions)
-    ∙ rw ((kept).1, all_listed z.s.now z.additions _ n.ensures, length-times read_prefix z.s.now z.additions.start n.result) in
-    let l = c.loop-j in
-    let n = c.at_most_16-more in
-    let z = c.args in
-    let e : l.j ≡ n.result = omega (arith, l.invariant.0) in record { ok = sym (le-leb (length (survivors (members_in z.s.now z.cuts) (view z.current) ++ members_in z.s.now z.additions)) 16 (omega (arith, summed))); list = l.invariant.1 ∙ rw ((kept).0, all_listed z.s.now z.additions _ n.ensures, e); count = omega (arith, l.invariant.3) }
+unfolding updated_members
+returns g c =
+    let l = c.args.current.now in
+    let cuts = g.L.Prefixes.list c.args.cuts in
+    let additions = g.L.Prefixes.list c.args.additions in
+    let f = c.loop in
+    let e : view f.members ≡ survivors cuts l ++ additions = f.invariant.list ∙ ap (λ k. survivors cuts l ++ k) (take_all f.counter additions (omega arith)) in
+    record {
+      ok = sym (le-leb (length (survivors cuts l ++ additions)) 16 (omega (arith, ap length e, view-counted f.members)));
+      list = e;
+      count = f.invariant.count;
+    }

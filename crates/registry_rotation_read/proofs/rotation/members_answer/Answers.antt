@@ -18,16 +18,16 @@ pub returns-then-not-accepts : goal.returns-then-not-accepts
 returns-then-not-accepts c =
     sym
     (members-first (members_in c.args.held.now c.args.current) c.args.s.now c.args.cuts c.args.additions c.args.toad c.args.signatures
-    ∙ first-refuses _ _ (current (members_in c.args.held.now c.args.current) c.args.s.now c.args.cuts c.args.additions c.args.toad c.args.signatures) _ (c.backer_set-deltas.ensures ∙ ap backer_set c.check_deltas.ensures) c.accepts.ensures (not-true _ c.if-not-accepts.true-raw))
+    ∙ first-refuses _ _ (current (members_in c.args.held.now c.args.current) c.args.s.now c.args.cuts c.args.additions c.args.toad c.args.signatures) _ (c.backer_set-deltas.ensures ∙ ap backer_set c.check_deltas.ensures.answer) c.accepts.ensures (not-true _ c.if-not-accepts.true-raw))
 
 pub returns-then-not-accepts-2 : goal.returns-then-not-accepts-2
 returns-then-not-accepts-2 c =
     let past-deltas : (members_of (members_in c.args.held.now c.args.current) c.args.s.now c.args.cuts c.args.additions c.args.toad c.args.signatures ≡ first_of (current (members_in c.args.held.now c.args.current) c.args.s.now c.args.cuts c.args.additions c.args.toad c.args.signatures)) =
     members-first (members_in c.args.held.now c.args.current) c.args.s.now c.args.cuts c.args.additions c.args.toad c.args.signatures
-    ∙ first_passes _ _ (current (members_in c.args.held.now c.args.current) c.args.s.now c.args.cuts c.args.additions c.args.toad c.args.signatures) _ (c.backer_set-deltas.ensures ∙ ap backer_set c.check_deltas.ensures) c.accepts.ensures (not-false _ c.if-not-accepts.false-raw) in
+    ∙ first_passes _ _ (current (members_in c.args.held.now c.args.current) c.args.s.now c.args.cuts c.args.additions c.args.toad c.args.signatures) _ (c.backer_set-deltas.ensures ∙ ap backer_set c.check_deltas.ensures.answer) c.accepts.ensures (not-false _ c.if-not-accepts.false-raw) in
     sym
     (past-deltas
-    ∙ first-refuses _ _ (limit (members_in c.args.held.now c.args.current) c.args.s.now c.args.cuts c.args.additions c.args.toad c.args.signatures) _ (c.backer_set-members.ensures ∙ ap backer_set c.check_current_in.ensures) c.accepts-2.ensures (not-true _ c.if-not-accepts-2.true-raw))
+    ∙ first-refuses _ _ (limit (members_in c.args.held.now c.args.current) c.args.s.now c.args.cuts c.args.additions c.args.toad c.args.signatures) _ (c.backer_set-members.ensures ∙ ap backer_set c.check_current.ensures.answer) c.accepts-2.ensures (not-true _ c.if-not-accepts-2.true-raw))
 
 pub overflow_add-count : goal.overflow_add-count
 overflow_add-count c =
@@ -38,10 +38,10 @@ pub returns-then-count-gt16 : goal.returns-then-count-gt16
 returns-then-count-gt16 c =
     let past-deltas : (members_of (members_in c.args.held.now c.args.current) c.args.s.now c.args.cuts c.args.additions c.args.toad c.args.signatures ≡ first_of (current (members_in c.args.held.now c.args.current) c.args.s.now c.args.cuts c.args.additions c.args.toad c.args.signatures)) =
     members-first (members_in c.args.held.now c.args.current) c.args.s.now c.args.cuts c.args.additions c.args.toad c.args.signatures
-    ∙ first_passes _ _ (current (members_in c.args.held.now c.args.current) c.args.s.now c.args.cuts c.args.additions c.args.toad c.args.signatures) _ (c.backer_set-deltas.ensures ∙ ap backer_set c.check_deltas.ensures) c.accepts.ensures (not-false _ c.if-not-accepts.false-raw) in
+    ∙ first_passes _ _ (current (members_in c.args.held.now c.args.current) c.args.s.now c.args.cuts c.args.additions c.args.toad c.args.signatures) _ (c.backer_set-deltas.ensures ∙ ap backer_set c.check_deltas.ensures.answer) c.accepts.ensures (not-false _ c.if-not-accepts.false-raw) in
     let past-current : (members_of (members_in c.args.held.now c.args.current) c.args.s.now c.args.cuts c.args.additions c.args.toad c.args.signatures ≡ first_of (limit (members_in c.args.held.now c.args.current) c.args.s.now c.args.cuts c.args.additions c.args.toad c.args.signatures)) =
     past-deltas
-    ∙ first_passes _ _ (limit (members_in c.args.held.now c.args.current) c.args.s.now c.args.cuts c.args.additions c.args.toad c.args.signatures) _ (c.backer_set-members.ensures ∙ ap backer_set c.check_current_in.ensures) c.accepts-2.ensures (not-false _ c.if-not-accepts-2.false-raw) in
+    ∙ first_passes _ _ (limit (members_in c.args.held.now c.args.current) c.args.s.now c.args.cuts c.args.additions c.args.toad c.args.signatures) _ (c.backer_set-members.ensures ∙ ap backer_set c.check_current.ensures.answer) c.accepts-2.ensures (not-false _ c.if-not-accepts-2.false-raw) in
     let summed : (c.surviving.result + c.at_most_16.result ≡ length (after (members_in c.args.held.now c.args.current) c.args.s.now c.args.cuts c.args.additions c.args.toad c.args.signatures)) =
     count-after (members_in c.args.held.now c.args.current) c.args.s.now c.args.cuts c.args.additions c.args.toad c.args.signatures _ _ c.surviving.ensures c.at_most_16.ensures in
     sym
@@ -52,10 +52,10 @@ pub returns-then-not-accepts-3 : goal.returns-then-not-accepts-3
 returns-then-not-accepts-3 c =
     let past-deltas : (members_of (members_in c.args.held.now c.args.current) c.args.s.now c.args.cuts c.args.additions c.args.toad c.args.signatures ≡ first_of (current (members_in c.args.held.now c.args.current) c.args.s.now c.args.cuts c.args.additions c.args.toad c.args.signatures)) =
     members-first (members_in c.args.held.now c.args.current) c.args.s.now c.args.cuts c.args.additions c.args.toad c.args.signatures
-    ∙ first_passes _ _ (current (members_in c.args.held.now c.args.current) c.args.s.now c.args.cuts c.args.additions c.args.toad c.args.signatures) _ (c.backer_set-deltas.ensures ∙ ap backer_set c.check_deltas.ensures) c.accepts.ensures (not-false _ c.if-not-accepts.false-raw) in
+    ∙ first_passes _ _ (current (members_in c.args.held.now c.args.current) c.args.s.now c.args.cuts c.args.additions c.args.toad c.args.signatures) _ (c.backer_set-deltas.ensures ∙ ap backer_set c.check_deltas.ensures.answer) c.accepts.ensures (not-false _ c.if-not-accepts.false-raw) in
     let past-current : (members_of (members_in c.args.held.now c.args.current) c.args.s.now c.args.cuts c.args.additions c.args.toad c.args.signatures ≡ first_of (limit (members_in c.args.held.now c.args.current) c.args.s.now c.args.cuts c.args.additions c.args.toad c.args.signatures)) =
     past-deltas
-    ∙ first_passes _ _ (limit (members_in c.args.held.now c.args.current) c.args.s.now c.args.cuts c.args.additions c.args.toad c.args.signatures) _ (c.backer_set-members.ensures ∙ ap backer_set c.check_current_in.ensures) c.accepts-2.ensures (not-false _ c.if-not-accepts-2.false-raw) in
+    ∙ first_passes _ _ (limit (members_in c.args.held.now c.args.current) c.args.s.now c.args.cuts c.args.additions c.args.toad c.args.signatures) _ (c.backer_set-members.ensures ∙ ap backer_set c.check_current.ensures.answer) c.accepts-2.ensures (not-false _ c.if-not-accepts-2.false-raw) in
     let summed : (c.surviving.result + c.at_most_16.result ≡ length (after (members_in c.args.held.now c.args.current) c.args.s.now c.args.cuts c.args.additions c.args.toad c.args.signatures)) =
     count-after (members_in c.args.held.now c.args.current) c.args.s.now c.args.cuts c.args.additions c.args.toad c.args.signatures _ _ c.surviving.ensures c.at_most_16.ensures in
     let past-limit : (members_of (members_in c.args.held.now c.args.current) c.args.s.now c.args.cuts c.args.additions c.args.toad c.args.signatures ≡ first_of (threshold (members_in c.args.held.now c.args.current) c.args.s.now c.args.cuts c.args.additions c.args.toad c.args.signatures)) =
@@ -73,10 +73,10 @@ returns c =
     count-after (members_in c.args.held.now c.args.current) c.args.s.now c.args.cuts c.args.additions c.args.toad c.args.signatures _ _ c.surviving.ensures c.at_most_16.ensures in
     let past-deltas : (members_of (members_in c.args.held.now c.args.current) c.args.s.now c.args.cuts c.args.additions c.args.toad c.args.signatures ≡ first_of (current (members_in c.args.held.now c.args.current) c.args.s.now c.args.cuts c.args.additions c.args.toad c.args.signatures)) =
     members-first (members_in c.args.held.now c.args.current) c.args.s.now c.args.cuts c.args.additions c.args.toad c.args.signatures
-    ∙ first_passes _ _ (current (members_in c.args.held.now c.args.current) c.args.s.now c.args.cuts c.args.additions c.args.toad c.args.signatures) _ (c.backer_set-deltas.ensures ∙ ap backer_set c.check_deltas.ensures) c.accepts.ensures (not-false _ c.if-not-accepts.false-raw) in
+    ∙ first_passes _ _ (current (members_in c.args.held.now c.args.current) c.args.s.now c.args.cuts c.args.additions c.args.toad c.args.signatures) _ (c.backer_set-deltas.ensures ∙ ap backer_set c.check_deltas.ensures.answer) c.accepts.ensures (not-false _ c.if-not-accepts.false-raw) in
     let past-current : (members_of (members_in c.args.held.now c.args.current) c.args.s.now c.args.cuts c.args.additions c.args.toad c.args.signatures ≡ first_of (limit (members_in c.args.held.now c.args.current) c.args.s.now c.args.cuts c.args.additions c.args.toad c.args.signatures)) =
     past-deltas
-    ∙ first_passes _ _ (limit (members_in c.args.held.now c.args.current) c.args.s.now c.args.cuts c.args.additions c.args.toad c.args.signatures) _ (c.backer_set-members.ensures ∙ ap backer_set c.check_current_in.ensures) c.accepts-2.ensures (not-false _ c.if-not-accepts-2.false-raw) in
+    ∙ first_passes _ _ (limit (members_in c.args.held.now c.args.current) c.args.s.now c.args.cuts c.args.additions c.args.toad c.args.signatures) _ (c.backer_set-members.ensures ∙ ap backer_set c.check_current.ensures.answer) c.accepts-2.ensures (not-false _ c.if-not-accepts-2.false-raw) in
     let past-limit : (members_of (members_in c.args.held.now c.args.current) c.args.s.now c.args.cuts c.args.additions c.args.toad c.args.signatures ≡ first_of (threshold (members_in c.args.held.now c.args.current) c.args.s.now c.args.cuts c.args.additions c.args.toad c.args.signatures)) =
     past-current
     ∙ first-passed _ TooManyBackers (threshold (members_in c.args.held.now c.args.current) c.args.s.now c.args.cuts c.args.additions c.args.toad c.args.signatures) (le-leb (length (after (members_in c.args.held.now c.args.current) c.args.s.now c.args.cuts c.args.additions c.args.toad c.args.signatures)) 16 (omega (arith, summed))) in
