@@ -1,6 +1,6 @@
 use Rattle.std.proofs.Common.{ap, ◌∙◌}
 use Rattle.cesr.specs.declared.BasicPrefix.{BasicPrefix}
-use Rattle.codec.specs.Readers.{Read}
+use Rattle.codec.specs.declared.Read.{Read}
 use Rattle.registry_rotation.proofs.Listed.{listed-head, listed-tail}
 use Rattle.registry_rotation.proofs.deltas.InBytesPrefixes.split.Goals as goal
 
