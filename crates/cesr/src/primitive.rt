@@ -49,6 +49,7 @@ impl Matter {
     }
 
     // Whether the primitive at a place is this one, by its first word first. It is compared where it stands, since a primitive that is read is first stored and then loaded again.
+    #[inline(always)]
     pub fn same_at(self, s: &[u8], at: usize) -> bool
         ensures { result ≡ eq_matter (read_matter s.now at) self }
     {

@@ -6,7 +6,7 @@
 --     listed-size, listed-head, listed-tail, listed-front
 --                                         how long it is, its first prefix, those behind it, and the first of them
 --     counted_listed                      the same list, by its length
---     has_more, found_listed              one prefix more that is looked at, and one that is found
+--     has_more                            one prefix more that is looked at
 use Prim.Native.Nat.{ℕ, zero, suc, ◌+◌, ◌<◌, ◌≤◌, ◌-◌, min}
 use mathlib.Core.Path.{◌≡◌, refl, ap, sym, ◌∙◌}
 use mathlib.Core.Bool.{Bool, true, false, ◌||◌, or-false}
@@ -21,7 +21,7 @@ use lib.Seq.{take_all, take-append-le, get_or_at}
 use Rattle.cesr.specs.declared.BasicPrefix.{BasicPrefix}
 use Rattle.cesr.specs.Primitives.{read_matter, eq_matter}
 use Rattle.events.specs.Members.{at, no_prefix, has}
-use Rattle.events.proofs.MemberLaws.{has-append, has-at}
+use Rattle.events.proofs.MemberLaws.{has-append}
 use Rattle.codec.specs.declared.Listed.{Listed}
 use Rattle.codec.specs.TelEvents.{members_in}
 use Rattle.codec.specs.declared.Cursor.{Cursor}
@@ -113,9 +113,3 @@ pub has_more : (s : List ℕ) (start c : Cursor) (i : ℕ) (x : BasicPrefix) (fo
 unfolding times has read_prefix read_if
 has_more s start c i x found same e g h =
     rw (add-one, has-append x (times i read_prefix s start).value ((read_prefix s (times i read_prefix s start).next).value ∷ []), ← e, ← g, ← h, or-false same)
-
--- and found, where it stands before the end
-pub found_listed : (s : List ℕ) (start c : Cursor) (n i : ℕ) (x : BasicPrefix) → i < n → c ≡ (times i read_prefix s start).next → eq_matter (read_matter s c.at) x.0 ≡ true → has x (times n read_prefix s start).value ≡ true
-unfolding read_prefix read_if
-found_listed s start c n i x b e h =
-    has-at x (times n read_prefix s start).value i (rw (length-times read_prefix s start n) b) (rw (times-at read_prefix s start n i no_prefix b, ← e) h)

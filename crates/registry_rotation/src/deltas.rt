@@ -11,6 +11,8 @@ use codec::{Cursor, Listed};
 use events_member_set::member_set::Prefixes;
 
 // Whether x is among the n prefixes that stand from a cursor on. Each is compared where it stands.
+// The loop is written out at its callers, as are a step and a search of a list below: else the prefix is stored and loaded again for each comparison.
+#[inline(always)]
 pub fn found_in(s: &[u8], start: Cursor, n: usize, x: BasicPrefix) -> bool
     ensures { result ≡ has x (times n read_prefix s.now start).value }
 {
@@ -30,6 +32,7 @@ impl Prefixes for InBytes<'_> {
         at_most_16(self.list.count)
     }
 
+    #[inline(always)]
     fn split(self) -> (BasicPrefix, Self) {
         let p = self.list.start.prefix(self.bytes);
         let count = self.size().saturating_sub(1);
@@ -50,6 +53,7 @@ impl Prefixes for InBytes<'_> {
         }
     }
 
+    #[inline(always)]
     fn has(self, x: BasicPrefix) -> bool {
         found_in(self.bytes, self.list.start, self.size(), x)
     }
