@@ -22,7 +22,7 @@ loop-i-preserved c =
     let l = c.loop-i in
     let g = c.read-g in
     let room : length (view_ids l.ids) < 16 = omega (arith, few, l.invariant.size) in
-    turn _ _ _ _ _ l.invariant g.result.value g.result.next g.ensures.read g.ensures.well _ _ c.contains-known.ensures c.registry_sound.ensures c.if-not-g-registry_sound.false _ (c.push-ids.ensures ∙ pushed_room _ _ room)
+    turn _ _ _ _ _ l.invariant g.result.value g.result.next g.ensures.read g.ensures.well _ _ c.contains-known.ensures c.registry_sound.ensures c.if-not-g-registry_sound.false _ (c.push.ensures ∙ pushed_room _ _ room)
 
 pub returns-then-not-g-registry_sound : goal.returns-then-not-g-registry_sound
 returns-then-not-g-registry_sound c =
