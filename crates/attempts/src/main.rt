@@ -90,6 +90,7 @@ fn answer_all<R: Read, W: Write>(reader: &mut R, writer: &mut W) -> io::Result<(
     let mut buffer = [0u8; 65536];
     let mut ledger = Ledger::empty();
     let mut run = read_count(reader)?;
+    // No index is counted here, so no `for` fits: the run says whether an attempt is still to come, and none is behind a broken one.
     while run.wants() {
         let length = read_length(reader)?;
         let attempt = read_part(reader, &mut buffer, length.unwrap_or(0))?;

@@ -1,22 +1,23 @@
 -- Laws of decimals.
 --     decimal-small, decimal-large   a number below ten is its digit; any other is the digits of its tenth, then its last digit
 --     decimal-length                 how many digits a number has at most
+--     decimal-counted                how many it has
 --     decimal-spelled                the digits, from the number of them
 --     copied                         a text that is copied is stored byte by byte
 use Prim.Native.Nat.{ℕ, zero, suc, ◌+◌, ◌*◌, ◌/◌, ◌%◌, ◌^◌, ◌≤◌, ◌<◌}
-use mathlib.Core.Path.{◌≡◌, refl, sym, ap}
+use mathlib.Core.Path.{◌≡◌, refl, sym, ap, ◌∙◌}
 use mathlib.Core.Bool.{Bool, true, false}
 use mathlib.Core.List.{List, [], ◌∷◌, ◌++◌, append_assoc}
-use native.Mathlib.Nat.{div-lt_self, div-lt_iff_lt-mul, mod-eq_of_lt, pow-zero, pow-suc}
+use native.Mathlib.Nat.{div-lt_self, div-lt_iff_lt-mul, le-div_iff_mul-le, one-le-pow, mod-eq_of_lt, pow-zero, pow-suc}
 use native.Mathlib.Numerals.{add-one}
 use native.Mathlib.Omega.{arith}
 use borrow.Author.Tests.{ltb-true, ltb-false, lt-ltb, le-ltb}
 use lib.Dec.{ltb, lit<}
-use lib.ListN.{length, set, get_or, take, length-append}
-use lib.Seq.{sets, sets-eq, length-take-le}
+use lib.ListN.{length, set, length-append}
+use lib.Seq.{sets, sets-eq}
 use borrow.Rule.Slice.PartMut.{put_mid}
 use Rattle.std.proofs.lemmas.List.{drop-drop}
-use Rattle.laws.proofs.Room.{sets-snoc, sets-append}
+use Rattle.laws.proofs.Room.{sets-snoc}
 use Rattle.ledger_text.specs.Lines.{decimal_in, decimal}
 
 pub tenth : (n : ℕ) → 10 ≤ n → n / 10 < n
@@ -90,14 +91,16 @@ spelled-below (suc b) n h = step (ltb n 10) refl (λ (t : 10 ≤ n). spelled-bel
 pub decimal-spelled : (n : ℕ) → decimal n ≡ spelled (length (decimal n)) n
 decimal-spelled n = spelled-below (suc n) n (omega arith)
 
--- one digit less, counted
-pub places-step : (d k rest : ℕ) → 10 ≤ rest → d + 1 ≡ k + length (decimal rest) → d + 1 ≡ k + 1 + length (decimal (rest / 10))
-places-step d k rest h e =
-    let f : length (decimal rest) ≡ length (decimal (rest / 10)) + 1 = rw (decimal-large rest h, length-append) in
-    omega arith
-
-pub places-end : (d k rest : ℕ) → rest < 10 → d + 1 ≡ k + length (decimal rest) → k ≡ d
-places-end d k rest h e = let f : length (decimal rest) ≡ 1 = rw (decimal-small rest h) in omega arith
+-- a number from a power of ten on and below the next has a digit more than the power, and 0 has as many as 1
+pub decimal-counted : (k n m : ℕ) → 10 ^ k ≤ m → m < 10 * 10 ^ k → n ≤ m → (1 < m → m ≤ n) → length (decimal n) ≡ k + 1
+decimal-counted zero n m l h s g = rw (decimal-small n (omega (arith, pow-zero 10)))
+decimal-counted (suc k) n m l h s g =
+    let from = rw pow-suc at l in
+    let below = rw pow-suc at h in
+    let large : 10 ≤ m = omega (arith, one-le-pow k 10 (omega arith)) in
+    let same : m ≤ n = g (omega arith) in
+    let rest = decimal-counted k (n / 10) (n / 10) ((le-div_iff_mul-le (omega arith)).1 (omega arith)) ((div-lt_iff_lt-mul (omega arith)).1 (omega arith)) (omega arith) (λ t. omega arith) in
+    rw (decimal-large n (omega arith), length-append) (ap (λ d. d + 1) (rest ∙ add-one k))
 
 -- the last digit may be stored first
 pub digit-put : (l : List ℕ) (at i j rest : ℕ) → i + 1 ≡ j → sets (set l (at + i) (48 + rest % 10)) at (spelled i (rest / 10)) ≡ sets l at (spelled j rest)

@@ -11,13 +11,7 @@ fn places(n: u64) -> usize
     ensures value { result ≡ length (decimal n) }
     ensures upper_bound { result ≤ 20 }
 {
-    let mut k = 1;
-    let mut rest = n;
-    while 10 <= rest {
-        rest /= 10;
-        k += 1;
-    }
-    k
+    n.max(1).ilog10() as usize + 1
 }
 
 // The digits go in from the last one on.
