@@ -1,7 +1,7 @@
 -- A ledger that has one row left (specs/Examples).
 --     reads, counted    it keeps the reading rules, and holds as many rows as it counts
 --     numbers           of two credentials that are not held it takes the first alone
-use Prim.Native.Nat.{ℕ, zero, suc, ◌≤◌, ◌<◌}
+use Prim.Native.Nat.{ℕ, zero, suc, ◌≤◌}
 use mathlib.Core.Path.{◌≡◌, refl, ap}
 use mathlib.Core.Bool.{true, false}
 use mathlib.Core.Option.{none}
