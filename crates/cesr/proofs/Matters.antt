@@ -1,4 +1,5 @@
 -- Laws of primitives.
+--     eq-fields, differ, agree `==` and `!=` as the test
 --     words-there              the words of a primitive that is there
 --     length-matter            it has 33 bytes
 --     matter-apart             primitives that differ in the first word
@@ -7,10 +8,10 @@
 use Prim.Native.Nat.{ℕ, ◌+◌, ◌<◌}
 use mathlib.Core.Path.{◌≡◌, refl, sym, ap, ◌∙◌}
 use mathlib.Core.List.{List}
-use mathlib.Core.Bool.{Bool, true, false, ◌&&◌}
+use mathlib.Core.Bool.{Bool, true, false, not, ◌&&◌}
 use native.Mathlib.Nat.{mod-eq_of_lt}
 use native.Mathlib.Omega.{arith}
-use borrow.Author.Tests.{eq-eqb, ne_eqb, eqb-true, leb-true}
+use borrow.Author.Tests.{eq-eqb, ne_eqb, eqb-true, leb-true, not-true, not-false}
 use lib.Dec.{leb, eqb}
 use lib.ListN.{length, length-append}
 use Rattle.cesr_number.specs.Number.{number, number_at}
@@ -18,12 +19,26 @@ use Rattle.cesr_number.specs.Room.{room}
 use Rattle.cesr_number.proofs.Number.{length_digits, whole-number}
 use Rattle.cesr_number.proofs.Tests.{and_left, and_right}
 use Rattle.cesr.specs.declared.Matter.{Matter}
+use Rattle.cesr.specs.contracts.MatterPartialEq.TheImpl.{eq-value}
 use Rattle.cesr.specs.declared.Said.{Said}
 use Rattle.cesr.specs.declared.BasicPrefix.{BasicPrefix}
 use Rattle.cesr.specs.Primitives.{none, word_bytes, matter_bytes, read_matter, eq_matter, eq_said, eq_prefix}
 
 pub made : {a b c d e a' b' c' d' e' : ℕ} → a ≡ a' → b ≡ b' → c ≡ c' → d ≡ d' → e ≡ e' → ◌≡◌ {A = Matter} (record { code = a; w0 = b; w1 = c; w2 = d; w3 = e }) (record { code = a'; w0 = b'; w1 = c'; w2 = d'; w3 = e' })
 made p q r s t = cc
+
+-- `==` compares the letter and the four words in their order, and `!=` is its contrary
+pub eq-fields : (a b : Matter) → eq-value.it a b ≡ eq_matter a b
+unfolding eq_matter
+eq-fields a b = refl
+
+pub differ : (a b : Matter) → true ≡ not (eq-value.it a b) → eq_matter a b ≡ false
+unfolding eq_matter
+differ a b h = not-true (eq_matter a b) (sym h)
+
+pub agree : (a b : Matter) → false ≡ not (eq-value.it a b) → eq_matter a b ≡ true
+unfolding eq_matter
+agree a b h = not-false (eq_matter a b) (sym h)
 
 pub length-matter : (m : Matter) → length (matter_bytes m) ≡ 33
 unfolding matter_bytes
@@ -34,7 +49,7 @@ pub matter-apart : (a b : Matter) → (a.w0 ≡ b.w0 → ⊥) → eq_matter a b 
 unfolding eq_matter
 matter-apart a b h = rw (ne_eqb a.w0 b.w0 h) (go (eqb a.code b.code))
   where
-    go : (t : Bool) → (t && false && eqb a.w1 b.w1 && eqb a.w2 b.w2 && eqb a.w3 b.w3) ≡ false
+    go : (t : Bool) → (t && (false && (eqb a.w1 b.w1 && (eqb a.w2 b.w2 && eqb a.w3 b.w3)))) ≡ false
     go true = refl
     go false = refl
 
@@ -69,7 +84,7 @@ matter-copied s at h p =
     rw (h, mod-eq_of_lt p, w.w0, w.w1, w.w2, w.w3)
 
 -- and it is compared by them
-pub same_whole : (m : Matter) (s : List ℕ) (at : ℕ) → leb (at + 33) (length s) ≡ true → (eqb (lib.ListN.get_or s at 0) m.code && eqb (number_at s (at + 1) 8) m.w0 && eqb (number_at s (at + 9) 8) m.w1 && eqb (number_at s (at + 17) 8) m.w2 && eqb (number_at s (at + 25) 8) m.w3) ≡ eq_matter (read_matter s at) m
+pub same_whole : (m : Matter) (s : List ℕ) (at : ℕ) → leb (at + 33) (length s) ≡ true → (eqb (lib.ListN.get_or s at 0) m.code && (eqb (number_at s (at + 1) 8) m.w0 && (eqb (number_at s (at + 9) 8) m.w1 && (eqb (number_at s (at + 17) 8) m.w2 && eqb (number_at s (at + 25) 8) m.w3)))) ≡ eq_matter (read_matter s at) m
 unfolding eq_matter read_matter room
 same_whole m s at h =
     let w = words-there s at h in
@@ -89,10 +104,10 @@ matter-eq a b h =
     let t2 = eqb a.w1 b.w1 in
     let t3 = eqb a.w2 b.w2 in
     let t4 = eqb a.w3 b.w3 in
-    let h3 = and_left (t0 && t1 && t2 && t3) t4 h in
-    let h2 = and_left (t0 && t1 && t2) t3 h3 in
-    let h1 = and_left (t0 && t1) t2 h2 in
-    made (eqb-true a.code b.code (and_left t0 t1 h1)) (eqb-true a.w0 b.w0 (and_right t0 t1 h1)) (eqb-true a.w1 b.w1 (and_right (t0 && t1) t2 h2)) (eqb-true a.w2 b.w2 (and_right (t0 && t1 && t2) t3 h3)) (eqb-true a.w3 b.w3 (and_right (t0 && t1 && t2 && t3) t4 h))
+    let h1 = and_right t0 (t1 && (t2 && (t3 && t4))) h in
+    let h2 = and_right t1 (t2 && (t3 && t4)) h1 in
+    let h3 = and_right t2 (t3 && t4) h2 in
+    made (eqb-true a.code b.code (and_left t0 (t1 && (t2 && (t3 && t4))) h)) (eqb-true a.w0 b.w0 (and_left t1 (t2 && (t3 && t4)) h1)) (eqb-true a.w1 b.w1 (and_left t2 (t3 && t4) h2)) (eqb-true a.w2 b.w2 (and_left t3 t4 h3)) (eqb-true a.w3 b.w3 (and_right t3 t4 h3))
 
 pub eq-matter : (a : Matter) → eq_matter a a ≡ true
 unfolding eq_matter

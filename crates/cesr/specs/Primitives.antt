@@ -31,7 +31,7 @@ said_at s at = record { 0 = read_matter s at }
 
 -- equal when all 33 bytes are: the letter and the four words
 unfoldable pub eq_matter : Matter → Matter → Bool
-eq_matter a b = eqb a.code b.code && eqb a.w0 b.w0 && eqb a.w1 b.w1 && eqb a.w2 b.w2 && eqb a.w3 b.w3
+eq_matter a b = eqb a.code b.code && (eqb a.w0 b.w0 && (eqb a.w1 b.w1 && (eqb a.w2 b.w2 && eqb a.w3 b.w3)))
 
 abbrev pub eq_said : Said → Said → Bool
 eq_said a b = eq_matter a.0 b.0

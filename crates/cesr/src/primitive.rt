@@ -1,6 +1,6 @@
 // A digest or a prefix: a code letter and 32 bytes (docs/RULES.md, "Bytes").
 ghost use Rattle.std.specs.Prelude.{◌≡◌};
-ghost use Rattle.cesr.specs.Primitives.{none, read_matter, said_at, eq_matter, eq_said, eq_prefix, is_basic, is_said};
+ghost use Rattle.cesr.specs.Primitives.{none, read_matter, said_at, eq_matter, is_basic, is_said};
 
 use crate::{BasicPrefix, Matter, Said};
 use cesr_number::number::{has_room, read_u64};
@@ -34,37 +34,21 @@ impl Matter {
         Matter::none()
     }
 
-    // Most primitives that differ do so in the first word, so that is looked at first.
-    pub fn same(self, other: Matter) -> bool
-        ensures { result ≡ eq_matter self other }
-    {
-        if self.w0 != other.w0 {
-            return false;
-        }
-        (self.code == other.code)
-            & (self.w0 == other.w0)
-            & (self.w1 == other.w1)
-            & (self.w2 == other.w2)
-            & (self.w3 == other.w3)
-    }
-
     // Whether the primitive at a place is this one, by its first word first. It is compared where it stands, since a primitive that is read is first stored and then loaded again.
     #[inline(always)]
     pub fn same_at(self, s: &[u8], at: usize) -> bool
         ensures { result ≡ eq_matter (read_matter s.now at) self }
     {
         if !has_room(s.len(), at, 33) {
-            return Matter::none().same(self);
+            return Matter::none() == self;
         }
         let first = read_u64(s, at + 1);
         if first != self.w0 {
             return false;
         }
+        let last = (read_u64(s, at + 17) == self.w2) & (read_u64(s, at + 25) == self.w3);
         (s[at] as u64 == self.code)
-            & (first == self.w0)
-            & (read_u64(s, at + 9) == self.w1)
-            & (read_u64(s, at + 17) == self.w2)
-            & (read_u64(s, at + 25) == self.w3)
+            & ((first == self.w0) & ((read_u64(s, at + 9) == self.w1) & last))
     }
 
     // The code letter is a basic prefix's: B or D, 66 or 68.
@@ -88,19 +72,5 @@ impl Said {
         ensures { result ≡ said_at s.now at }
     {
         Said(Matter::read(s, at))
-    }
-
-    pub fn same(self, other: Said) -> bool
-        ensures { result ≡ eq_said self other }
-    {
-        self.0.same(other.0)
-    }
-}
-
-impl BasicPrefix {
-    pub fn same(self, other: BasicPrefix) -> bool
-        ensures { result ≡ eq_prefix self other }
-    {
-        self.0.same(other.0)
     }
 }

@@ -1,5 +1,5 @@
 // The sequence number: 128 bits in two words (docs/RULES.md, "Bytes").
-ghost use Rattle.std.specs.Prelude.{◌≡◌, ◌+◌, ◌-◌, ◌^◌, eqb, ltb};
+ghost use Rattle.std.specs.Prelude.{◌≡◌, ◌+◌, ◌-◌, ◌^◌, eqb};
 ghost use Rattle.cesr_number.specs.Room.{room, put};
 ghost use Rattle.cesr_sn.specs.Numbers.{value, sn_of, read_sn, sn_bytes};
 
@@ -7,18 +7,6 @@ use crate::Sn;
 use cesr_number::number::{has_room, read_u64, write_u64};
 
 impl Sn {
-    pub fn same(self, other: Sn) -> bool
-        ensures { result ≡ eqb (value self) (value other) }
-    {
-        (self.hi == other.hi) & (self.lo == other.lo)
-    }
-
-    pub fn less(self, other: Sn) -> bool
-        ensures { result ≡ ltb (value self) (value other) }
-    {
-        (self.hi < other.hi) | ((self.hi == other.hi) & (self.lo < other.lo))
-    }
-
     pub fn is_last(self) -> bool
         ensures { result ≡ eqb (value self) (2 ^ 128 - 1) }
     {

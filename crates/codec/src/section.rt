@@ -120,7 +120,7 @@ pub fn read_toad(c: Cursor, s: &[u8]) -> Read<Toad>
         hi: 0,
         lo: 4294967296,
     };
-    let next = n.next.expect_that(number.less(above));
+    let next = n.next.expect_that(number < above);
     let value = Toad::from_wire((number.lo % 4294967296) as u32);
     Read { value, next }
 }

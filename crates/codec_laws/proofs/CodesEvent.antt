@@ -22,7 +22,7 @@ use Rattle.codec.specs.Layout.{joined, section_bytes, byte_bytes, said_bytes, pr
 use Rattle.codec.specs.Readers.{placed, Reader, need, mapped, both, after, ended, read_byte, read_number, read_said, read_identifier}
 use Rattle.codec.specs.declared.Read.{Read}
 use Rattle.codec.specs.Events.{read_toad, read_configs, read_prefixes, read_seal, vcp_of, vrt_of, iss_of, rev_of, bis_of, brv_of, read_vcp, read_vrt, read_iss, read_rev, read_bis, read_brv, read_kind, read_event}
-use Rattle.codec_laws.proofs.Stands.{Stands, passed, stays}
+use Rattle.codec_laws.proofs.Stands.{Stands, passed}
 use Rattle.codec_laws.proofs.Codes.{Told, Codes, led, leads, shift, mapped-is, codes-both, codes-after, codes-ended, codes-sn, codes-said, codes-identifier}
 use Rattle.codec_laws.proofs.CodesSeal.{codes-toad, codes-configs, codes-prefixes, codes-seal}
 

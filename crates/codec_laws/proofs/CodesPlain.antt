@@ -9,7 +9,7 @@ use Rattle.laws.specs.Number.{Bytes}
 use Rattle.codec.specs.declared.Cursor.{Cursor}
 use Rattle.codec.specs.Readers.{need, read_byte}
 use Rattle.codec.specs.declared.Read.{Read}
-use Rattle.codec_laws.proofs.Stands.{Stands, Passed, passed, stays}
+use Rattle.codec_laws.proofs.Stands.{Stands, Passed, passed}
 use Rattle.codec_laws.proofs.Codes.{Told, codes-byte}
 
 or-first : (x y : Bool) → y ≡ false → (x || y) ≡ true → x ≡ true

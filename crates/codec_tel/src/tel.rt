@@ -10,24 +10,6 @@ use codec_tel_registry::tel::{blank, read_vcp, read_vrt};
 use codec_tel_registry::{Kind, Read, TelEvent};
 use events_seal::Seal;
 
-// A credential's event: where its digests stand, and its seal.
-fn of_credential(
-    kind: Kind,
-    said: usize,
-    credential: usize,
-    registry: usize,
-    prior: usize,
-    seal: Seal,
-) -> TelEvent
-    ensures { (result.kind ≡ kind) × (result.said ≡ said) × (result.credential ≡ credential) × (result.registry ≡ registry) × (result.prior ≡ prior) × (result.seal ≡ seal) }
-{
-    let mut e = blank(kind, said, seal);
-    e.credential = credential;
-    e.registry = registry;
-    e.prior = prior;
-    e
-}
-
 // Behind sections 2 to 5 with no elements.
 fn pass_empty(c: Cursor, s: &[u8]) -> Cursor
     ensures { result ≡ counted 0 s.now (counted 0 s.now (counted 0 s.now (counted 0 s.now c))) }
@@ -42,8 +24,9 @@ fn read_iss(c: Cursor, s: &[u8]) -> Read<TelEvent>
     let credential = iss.pass_said(s);
     let registry = credential.pass_said(s);
     let next = pass_empty(registry.pass_said(s), s).count(s, 0);
-    let none = Seal::Digest;
-    let value = of_credential(Kind::Iss, iss.at, credential.at, registry.at, 0, none);
+    let mut value = blank(Kind::Iss, iss.at, Seal::Digest);
+    value.credential = credential.at;
+    value.registry = registry.at;
     Read { value, next }
 }
 
@@ -55,15 +38,10 @@ fn read_rev(c: Cursor, s: &[u8]) -> Read<TelEvent>
     let registry = credential.pass_said(s);
     let prior = registry.pass_said(s);
     let next = pass_empty(prior.pass_said(s), s).count(s, 0);
-    let none = Seal::Digest;
-    let value = of_credential(
-        Kind::Rev,
-        rev.at,
-        credential.at,
-        registry.at,
-        prior.at,
-        none,
-    );
+    let mut value = blank(Kind::Rev, rev.at, Seal::Digest);
+    value.credential = credential.at;
+    value.registry = registry.at;
+    value.prior = prior.at;
     Read { value, next }
 }
 
@@ -78,10 +56,14 @@ fn read_backed(issues: bool, c: Cursor, s: &[u8]) -> Read<TelEvent>
     let seal = own.value;
     let next = own.next;
     if issues {
-        let value = of_credential(Kind::Bis, said.at, credential.at, third.at, 0, seal);
+        let mut value = blank(Kind::Bis, said.at, seal);
+        value.credential = credential.at;
+        value.registry = third.at;
         return Read { value, next };
     }
-    let value = of_credential(Kind::Brv, said.at, credential.at, 0, third.at, seal);
+    let mut value = blank(Kind::Brv, said.at, seal);
+    value.credential = credential.at;
+    value.prior = third.at;
     Read { value, next }
 }
 

@@ -44,7 +44,7 @@ impl Prefixes for &[BasicPrefix] {
     }
 
     fn has(self, x: BasicPrefix) -> bool {
-        self.iter().any(|p| p.same(x))
+        self.contains(&x)
     }
 }
 

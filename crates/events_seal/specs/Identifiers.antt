@@ -1,7 +1,7 @@
 -- Identifiers (docs/RULES.md, "Identifiers and seals").
-use Rattle.std.specs.Prelude.{ℕ, Bool, cond}
+use Rattle.std.specs.Prelude.{ℕ, cond}
 use Rattle.cesr.specs.declared.Matter.{Matter}
-use Rattle.cesr.specs.Primitives.{eq_matter, is_basic}
+use Rattle.cesr.specs.Primitives.{is_basic}
 use Rattle.events_seal.specs.declared.Identifier.{Identifier}
 use Rattle.events_seal.specs.declared.Identifier.TheVariants.{Basic, SelfAddressing}
 
@@ -17,7 +17,3 @@ identifier_of m = cond (is_basic m) (Basic (record { 0 = m })) (SelfAddressing (
 -- its code letter, which tells the two apart in bytes
 abbrev pub letter_of : Identifier → ℕ
 letter_of i = (matter_of i).code
-
--- equal when all 33 bytes are
-abbrev pub eq_identifier : Identifier → Identifier → Bool
-eq_identifier i j = eq_matter (matter_of i) (matter_of j)

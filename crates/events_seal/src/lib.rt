@@ -2,7 +2,7 @@
 #![tactic(auto)]
 
 ghost use Rattle.std.specs.Prelude.{◌≡◌};
-ghost use Rattle.events_seal.specs.Identifiers.{identifier_of, matter_of, eq_identifier};
+ghost use Rattle.events_seal.specs.Identifiers.{identifier_of, matter_of};
 ghost use Rattle.events_seal.specs.Seals.{kind_of};
 
 use cesr::{BasicPrefix, Matter, Said};
@@ -32,12 +32,6 @@ impl Identifier {
             Identifier::Basic(p) => p.0,
             Identifier::SelfAddressing(d) => d.0,
         }
-    }
-
-    pub fn same(self, other: Identifier) -> bool
-        ensures { result ≡ eq_identifier self other }
-    {
-        self.matter().same(other.matter())
     }
 }
 

@@ -1,11 +1,11 @@
 // Configuration traits, and lists of their bytes (docs/RULES.md, "Configuration traits").
 ghost use Rattle.std.specs.Prelude.{◌≡◌, ◌≤◌, [], length, get_or, is_ok, OnErr};
-ghost use Rattle.codec_cursor.specs.Words.{same_list};
 ghost use Rattle.events_tel.specs.Configs.{code_of, trait_of, view_configs, has_room, pushed, has_code, no_backers};
 
 use crate::{ConfigTrait, Configs, NoRoom};
 
 impl ConfigTrait {
+    // `as u8` under a name, whose contract says which byte it is.
     pub fn code(self) -> u8
         ensures { result ≡ code_of self }
     {
@@ -84,14 +84,6 @@ impl Configs {
             return Ok(());
         }
         Err(NoRoom)
-    }
-
-    // Equal as lists: order and repeats count, and what stands past the count does not.
-    #[tactic(auto, using(crate::proofs::ConfigLaws::pointwise_same))]
-    pub fn same(self, other: Configs) -> bool
-        ensures { result ≡ same_list (view_configs self) (view_configs other) }
-    {
-        self.as_slice() == other.as_slice()
     }
 
     // Whether the trait NoBackers is in the list.

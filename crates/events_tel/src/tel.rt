@@ -6,7 +6,7 @@ use crate::Kind;
 use codec_cursor::Sn;
 
 impl Kind {
-    // The byte that stands for the kind.
+    // The byte that stands for the kind: `as u8` under a name, whose contract says which byte it is.
     pub fn number(self) -> u8
         ensures { result ≡ kind_number self }
     {

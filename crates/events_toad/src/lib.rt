@@ -19,7 +19,7 @@ pub enum ToadError {
 }
 
 impl ToadError {
-    // The refusal's number: both have the same.
+    // The refusal's number: both have the same, so it does not come from their order.
     pub fn number(self) -> u8
         ensures { result ≡ toad_number (Err self) }
     {

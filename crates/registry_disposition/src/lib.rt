@@ -30,7 +30,7 @@ pub enum Disposition {
 pub fn out_of_order(expected: Sn, actual: Sn) -> Disposition
     ensures { result ≡ out_of_order expected actual }
 {
-    if expected.less(actual) {
+    if expected < actual {
         return Disposition::Awaiting(EvidenceKind::PriorEvents { expected });
     }
     Disposition::Contested

@@ -31,7 +31,7 @@ fn with_digit(n: u64, byte: u8) -> Option<u64>
     n.checked_mul(10)?.checked_add(u64::from(byte - b'0'))
 }
 
-// The number that a text of decimal digits alone says.
+// The number that a text of decimal digits alone says. It reads digits, and converts no enum.
 #[tactic(auto, unfolding(crate::specs::Texts::number_of))]
 pub fn number(s: &[u8]) -> Option<u64>
     ensures { result ≡ number_of s.now }

@@ -3,13 +3,13 @@ use native.Mathlib.Omega.{arith}
 use Prim.Native.Nat.{◌+◌, ◌≤◌}
 use lib.ListN.{length}
 use borrow.Author.Tests.{leb-true, not-true, not-false}
-use Rattle.cesr.proofs.Matters.{matter-none, apart-whole, same_whole}
+use Rattle.cesr.proofs.Matters.{eq-fields, matter-none, apart-whole, same_whole}
 use Rattle.cesr.proofs.Matter.same_at.Goals as goal
 
 pub returns-then-not-has_room : goal.returns-then-not-has_room
 returns-then-not-has_room c =
     let a = c.args in
-    rw (sym (matter-none a.s.now a.at (sym c.has_room.ensures ∙ not-true _ c.if-not-has_room.true-raw)), sym c.none.ensures) c.same.ensures
+    rw (sym (matter-none a.s.now a.at (sym c.has_room.ensures ∙ not-true _ c.if-not-has_room.true-raw)), sym c.none.ensures) (c.eq.ensures ∙ eq-fields c.none.result c.args.self)
 
 pub overflow_add-at : goal.overflow_add-at
 overflow_add-at c =

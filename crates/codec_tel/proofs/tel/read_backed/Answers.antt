@@ -5,7 +5,7 @@ use Rattle.codec_tel.proofs.tel.read_backed.Goals as goal
 pub returns-then-issues : goal.returns-then-issues
 unfolding read_bis read_said read_if
 returns-then-issues c =
-    let e = c.of_credential-value.ensures in
+    let e = c.blank-value.ensures in
     rw (
       c.if-issues.true,
       ← c.count-said.ensures,
@@ -18,14 +18,12 @@ returns-then-issues c =
       e.0,
       e.1,
       e.2,
-      e.3,
-      e.5,
     )
 
 pub returns : goal.returns
 unfolding read_brv read_said read_if
 returns c =
-    let e = c.of_credential-value-2.ensures in
+    let e = c.blank-value-2.ensures in
     rw (
       c.if-issues.false,
       ← c.count-said.ensures,
@@ -38,6 +36,4 @@ returns c =
       e.0,
       e.1,
       e.2,
-      e.4,
-      e.5,
     )

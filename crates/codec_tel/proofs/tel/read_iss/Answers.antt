@@ -5,7 +5,7 @@ use Rattle.codec_tel.proofs.tel.read_iss.Goals as goal
 pub returns : goal.returns
 unfolding read_iss read_said read_if
 returns c =
-    let e = c.of_credential-value.ensures in
+    let e = c.blank-value.ensures in
     rw (
       ← c.count-iss.ensures,
       ← c.pass_said-credential.ensures,
@@ -15,6 +15,4 @@ returns c =
       ← c.count-next.ensures,
       e.0,
       e.1,
-      e.2,
-      e.3,
     )

@@ -5,7 +5,7 @@ use Rattle.codec_tel.proofs.tel.read_rev.Goals as goal
 pub returns : goal.returns
 unfolding read_rev read_said read_if
 returns c =
-    let e = c.of_credential-value.ensures in
+    let e = c.blank-value.ensures in
     rw (
       ← c.count-rev.ensures,
       ← c.pass_said-credential.ensures,
@@ -16,7 +16,4 @@ returns c =
       ← c.count-next.ensures,
       e.0,
       e.1,
-      e.2,
-      e.3,
-      e.4,
     )
