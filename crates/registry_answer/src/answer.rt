@@ -8,8 +8,8 @@ pub fn accepts(answer: Answer) -> bool
     ensures { result ≡ accepts answer }
 {
     match answer {
-        Answer::Accepted => true,
-        Answer::Rejected(_) => false,
+        Ok(()) => true,
+        Err(_) => false,
     }
 }
 
@@ -18,9 +18,9 @@ pub fn accept_if(test: bool, refusal: RegistryRejection) -> Answer
     ensures { result ≡ accept_if test refusal }
 {
     if test {
-        return Answer::Accepted;
+        return Ok(());
     }
-    Answer::Rejected(refusal)
+    Err(refusal)
 }
 
 // The rules on lists of backers, as a check.
@@ -28,8 +28,8 @@ pub fn backer_set(membership: Result<(), Broken>) -> Answer
     ensures { result ≡ backer_set membership }
 {
     match membership {
-        Ok(()) => Answer::Accepted,
-        Err(Broken { rule, at }) => { Answer::Rejected(RegistryRejection::BackerSet { rule, at }) }
+        Ok(()) => Ok(()),
+        Err(Broken { rule, at }) => { Err(RegistryRejection::BackerSet { rule, at }) }
     }
 }
 
@@ -38,7 +38,7 @@ pub fn or_else(first: Answer, second: Answer) -> Answer
     ensures { result ≡ or_else first second }
 {
     match first {
-        Answer::Accepted => second,
-        Answer::Rejected(_) => first,
+        Ok(()) => second,
+        Err(_) => first,
     }
 }

@@ -150,15 +150,19 @@ module _ (l : List ℕ) (at : ℕ) (a b : Matter) (n : Sn) (d : Matter) (toad : 
       ∙ ap (λ (k : ℕ). sets (sets l at (head_bytes a b n d)) (at + k) (terms toad configs)) (sym (length-head a b n d))
       ∙ sym (sets-append l at (head_bytes a b n d) (terms toad configs))
 
-  pub front-refused : (k : ℕ) → k ≡ length configs → false ≡ leb (at + (120 + k)) (length l) → (false ≡ room l at (length (front_bytes a b n d toad configs))) × (l ≡ put l at (front_bytes a b n d toad configs))
+  -- behind the head stand five bytes and the config bytes
+  whole : (k : ℕ) → k ≡ 5 + length configs → length (front_bytes a b n d toad configs) ≡ 115 + k
+  whole k e = omega (arith, length_front a b n d toad configs)
+
+  pub front-refused : (k : ℕ) → k ≡ 5 + length configs → false ≡ leb (at + (115 + k)) (length l) → (false ≡ room l at (length (front_bytes a b n d toad configs))) × (l ≡ put l at (front_bytes a b n d toad configs))
   front-refused k e h =
       let f = front_bytes a b n d toad configs in
-      refused l at (length f) f refl (rw (length_front a b n d toad configs, ← e) (sym h))
+      refused l at (length f) f refl (rw (whole k e) (sym h))
 
-  pub front-stored : (k : ℕ) (o m : List ℕ) → k ≡ length configs → true ≡ leb (at + (120 + k)) (length l) → o ≡ put l at (head_bytes a b n d) → m ≡ sets o (at + 115) (terms toad configs) → (true ≡ room l at (length (front_bytes a b n d toad configs))) × (m ≡ put l at (front_bytes a b n d toad configs))
+  pub front-stored : (k : ℕ) (o m : List ℕ) → k ≡ 5 + length configs → true ≡ leb (at + (115 + k)) (length l) → o ≡ put l at (head_bytes a b n d) → m ≡ sets o (at + 115) (terms toad configs) → (true ≡ room l at (length (front_bytes a b n d toad configs))) × (m ≡ put l at (front_bytes a b n d toad configs))
   front-stored k o m e h p q =
       let f = front_bytes a b n d toad configs in
-      stored l at (length f) f m refl (rw (length_front a b n d toad configs, ← e) (sym h)) (front-sets o m (omega (arith, leb-true (at + (120 + k)) (length l) (sym h))) p q)
+      stored l at (length f) f m refl (rw (whole k e) (sym h)) (front-sets o m (omega (arith, leb-true (at + (115 + k)) (length l) (sym h))) p q)
 
   module _ (backers : List BasicPrefix) where
     abbrev state : List ℕ
@@ -167,13 +171,13 @@ module _ (l : List ℕ) (at : ℕ) (a b : Matter) (n : Sn) (d : Matter) (toad : 
     pub state-refused : (k : ℕ) → k ≡ 121 + length configs + 33 * length backers → false ≡ leb (at + k) (length l) → (false ≡ room l at (length state)) × (l ≡ put l at state)
     state-refused k e h = refused l at (length state) state refl (rw (length-state a b n d toad configs backers, ← e) (sym h))
 
-    pub state-stored : (k i : ℕ) (o m q : List ℕ) → k ≡ 121 + length configs + 33 * length backers → true ≡ leb (at + k) (length l) → i ≡ length configs → o ≡ put l at (head_bytes a b n d) → m ≡ sets o (at + 115) (terms toad configs) → q ≡ sets (mid_of (at + 120 + i) (length m - (at + 120 + i)) m) 0 (section_bytes prefix_bytes backers) → (true ≡ room l at (length state)) × (put_mid (at + 120 + i) (length m - (at + 120 + i)) m q ≡ put l at state)
+    pub state-stored : (k i : ℕ) (o m q : List ℕ) → k ≡ 121 + length configs + 33 * length backers → true ≡ leb (at + k) (length l) → i ≡ 5 + length configs → o ≡ put l at (head_bytes a b n d) → m ≡ sets o (at + 115) (terms toad configs) → q ≡ sets (mid_of (at + 115 + i) (length m - (at + 115 + i)) m) 0 (section_bytes prefix_bytes backers) → (true ≡ room l at (length state)) × (put_mid (at + 115 + i) (length m - (at + 115 + i)) m q ≡ put l at state)
     state-stored k i o m q e h j f g r =
         let w = leb-true (at + k) (length l) (sym h) in
         let front = front_bytes a b n d toad configs in
         let p : m ≡ sets l at front = front-sets o m (omega arith) f g in
         let s : length m ≡ length l = rw (p, length-sets) in
-        let t : at + 120 + i ≡ at + length front = omega (arith, length_front a b n d toad configs) in
-        let whole : sets m (at + 120 + i) (section_bytes prefix_bytes backers) ≡ sets l at state = rw (state-front a b n d toad configs backers, sets-append, p, t) in
+        let t : at + 115 + i ≡ at + length front = omega (arith, length_front a b n d toad configs) in
+        let whole : sets m (at + 115 + i) (section_bytes prefix_bytes backers) ≡ sets l at state = rw (state-front a b n d toad configs backers, sets-append, p, t) in
         stored l at (length state) state _ refl (rw (length-state a b n d toad configs backers, ← e) (sym h))
-        (part-stored (at + 120 + i) m q (section_bytes prefix_bytes backers) (omega arith) r ∙ whole)
+        (part-stored (at + 115 + i) m q (section_bytes prefix_bytes backers) (omega arith) r ∙ whole)

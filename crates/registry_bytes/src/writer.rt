@@ -9,13 +9,31 @@ ghost use Rattle.events.specs.Members.{view};
 ghost use Rattle.codec_laws.specs.Layout.{section_bytes, byte_bytes, prefix_bytes};
 ghost use Rattle.registry_bytes.specs.StateBytes.{front_bytes, state_bytes};
 
+use crate::Terms;
 use cesr_number::number::{has_room, write_u32};
 use cesr_write::matter::write_matter;
 use codec_laws::Configs;
 use events::Members;
-use events_toad::Toad;
 use registry_head::head::{copy_credential, write_credential};
 use registry_head::{HeadParts, HeadPlaces};
+
+impl Terms {
+    pub fn size(self) -> usize
+        ensures { result ≡ 5 + length (view_configs self.configs) }
+    {
+        5 + self.configs.size()
+    }
+
+    fn write(self, out: &mut [u8], at: usize)
+        requires { at + (5 + length (view_configs self.configs)) ≤ length out.old }
+        ensures { out.new ≡ sets out.old at (digits 4 self.toad.0 ++ section_bytes byte_bytes (view_configs self.configs)) }
+    {
+        let n = self.configs.size();
+        write_u32(out, at, self.toad.value());
+        out[at + 4] = n as u8;
+        out[at + 5..at + 5 + n].copy_from_slice(&self.configs.codes[..n]);
+    }
+}
 
 // How many bytes a registry state has: 121, the config bytes, and 33 for each backer.
 pub fn state_size(configs: Configs, backers: &Members) -> usize
@@ -24,55 +42,36 @@ pub fn state_size(configs: Configs, backers: &Members) -> usize
     121 + configs.size() + 33 * backers.size()
 }
 
-// The fields of a registry state. Stores all its bytes or none, and answers which.
+// A registry state. Stores all its bytes or none, and answers which.
 pub fn write_registry(
     out: &mut [u8],
     at: usize,
     head: &HeadParts,
-    toad: Toad,
-    configs: Configs,
+    terms: Terms,
     backers: &Members,
 ) -> bool
-    ensures { (result ≡ room out.old at (length (state_bytes head.now.first head.now.second head.now.sn head.now.last toad.0 (view_configs configs) (view backers.now)))) × (out.new ≡ put out.old at (state_bytes head.now.first head.now.second head.now.sn head.now.last toad.0 (view_configs configs) (view backers.now))) }
+    ensures { (result ≡ room out.old at (length (state_bytes head.now.first head.now.second head.now.sn head.now.last terms.toad.0 (view_configs terms.configs) (view backers.now)))) × (out.new ≡ put out.old at (state_bytes head.now.first head.now.second head.now.sn head.now.last terms.toad.0 (view_configs terms.configs) (view backers.now))) }
 {
-    if !has_room(out.len(), at, state_size(configs, backers)) {
+    if !has_room(out.len(), at, state_size(terms.configs, backers)) {
         return false;
     }
     write_credential(out, at, head);
-    write_terms(out, at + 115, toad, configs);
-    let behind = at + 120 + configs.size();
+    terms.write(out, at + 115);
+    let behind = at + 115 + terms.size();
     write_backers(&mut out[behind..], backers);
     true
 }
 
 // A registry state before its backers, from the start of `out` on. Its primitives are copied from where they stand. Stores all its bytes or none, and answers which.
-pub fn copy_front(
-    held: &[u8],
-    s: &[u8],
-    head: &HeadPlaces,
-    toad: Toad,
-    configs: Configs,
-    out: &mut [u8],
-) -> bool
-    ensures { (result ≡ room out.old 0 (length (front_bytes (read_matter held.now head.now.first) (read_matter held.now head.now.second) head.now.sn (read_matter s.now head.now.last) toad.0 (view_configs configs)))) × (out.new ≡ put out.old 0 (front_bytes (read_matter held.now head.now.first) (read_matter held.now head.now.second) head.now.sn (read_matter s.now head.now.last) toad.0 (view_configs configs))) }
+pub fn copy_front(held: &[u8], s: &[u8], head: &HeadPlaces, terms: Terms, out: &mut [u8]) -> bool
+    ensures { (result ≡ room out.old 0 (length (front_bytes (read_matter held.now head.now.first) (read_matter held.now head.now.second) head.now.sn (read_matter s.now head.now.last) terms.toad.0 (view_configs terms.configs)))) × (out.new ≡ put out.old 0 (front_bytes (read_matter held.now head.now.first) (read_matter held.now head.now.second) head.now.sn (read_matter s.now head.now.last) terms.toad.0 (view_configs terms.configs))) }
 {
-    if !has_room(out.len(), 0, 120 + configs.size()) {
+    if !has_room(out.len(), 0, 115 + terms.size()) {
         return false;
     }
     copy_credential(held, s, head, out);
-    write_terms(out, 115, toad, configs);
+    terms.write(out, 115);
     true
-}
-
-// The threshold, then the section of the config bytes: their count, then they.
-fn write_terms(out: &mut [u8], at: usize, toad: Toad, configs: Configs)
-    requires { at + (5 + length (view_configs configs)) ≤ length out.old }
-    ensures { out.new ≡ sets out.old at (digits 4 toad.0 ++ section_bytes byte_bytes (view_configs configs)) }
-{
-    let n = configs.size();
-    write_u32(out, at, toad.value());
-    out[at + 4] = n as u8;
-    out[at + 5..at + 5 + n].copy_from_slice(&configs.codes[..n]);
 }
 
 // The count of the backers, then the backers.

@@ -7,7 +7,7 @@
 --     next-sets          the bytes of a next state, in the two parts that they are stored in
 --     members-fit        the bytes of a list find room, where its members do
 --     listed-survivors, all-survivors   those that survive, by the loops that read both lists
---     next-sizes         the bounds of what the size of a next state is summed of, where it finds room
+--     next_sizes         what the size of a next state is summed of, and that it is within the room that it finds
 --     next-refused, next-stored   what a writer of a next state leaves and answers
 --     member-bytes       the bytes of a prefix that is read are those of the primitive at its place
 use Prim.Native.Nat.{ℕ, suc, ◌+◌, ◌*◌, ◌≤◌, ◌<◌, ◌-◌, min}
@@ -38,11 +38,11 @@ use Rattle.codec_cursor.specs.declared.Read.{Read}
 use Rattle.codec.specs.Layout.{joined, section_bytes, prefix_bytes}
 use Rattle.codec.proofs.Loops.{length-times}
 use Rattle.codec_laws.proofs.CodesList.{joined-append, joined_snoc}
-use Rattle.registry_bytes.proofs.StateWrites.{few-configs, length-backers, length_front, part-stored, state-front}
+use Rattle.registry_bytes.proofs.StateWrites.{length-backers, length_front, part-stored, state-front}
 use Rattle.registry_bytes.specs.StateBytes.{front_bytes}
 use Rattle.registry_room.specs.declared.NextState.{NextState}
 use Rattle.registry_room.specs.NextStates.{next_members, next_bytes}
-use Rattle.registry_room.proofs.Counts.{left, survivors-kept, size-next, few-next}
+use Rattle.registry_room.proofs.Counts.{left, survivors-kept, size-next}
 
 length-members : (l : List BasicPrefix) → length (joined prefix_bytes l) ≡ 33 * length l
 unfolding section_bytes
@@ -99,9 +99,9 @@ module _ (held s : List ℕ) (p : NextState) where
   front-next =
       length_front (read_matter held p.id) (read_matter held p.issuer) p.sn (read_matter s p.latest) p.toad.0 (view_configs p.configs)
 
-  pub next-sizes : (k : ℕ) (l : List ℕ) → k ≡ length (view_configs p.configs) → length p.configs.codes ≡ 8 → true ≡ leb (length (next_bytes held s p)) (length l) → (length (next_bytes held s p) ≡ 121 + k + 33 * length (next_members held s p)) × ((length (next_bytes held s p) ≤ length l) × ((k ≤ 8) × (length (next_members held s p) ≤ 32)))
-  next-sizes k l e full h =
-      (omega (arith, size-next held s p), (leb-true (length (next_bytes held s p)) (length l) (sym h), (omega (arith, few-configs p.configs full), few-next held s p)))
+  -- a next state that finds room, by its parts
+  pub next_sizes : (l : List ℕ) → true ≡ leb (length (next_bytes held s p)) (length l) → (length (next_bytes held s p) ≡ 121 + length (view_configs p.configs) + 33 * length (next_members held s p)) × (length (next_bytes held s p) ≤ length l)
+  next_sizes l h = (size-next held s p, leb-true (length (next_bytes held s p)) (length l) (sym h))
 
   pub next-sets : (b : List ℕ) (k : ℕ) → k ≡ 120 + length (view_configs p.configs) → k ≤ length b → sets (put b 0 front) k (section_bytes prefix_bytes (next_members held s p)) ≡ sets b 0 (next_bytes held s p)
   unfolding next_bytes
@@ -120,10 +120,11 @@ module _ (held s : List ℕ) (p : NextState) where
       refused l 0 (length bytes) bytes refl (lt-leb (0 + length bytes) (length l) (omega (arith, short)))
 
   -- what stands before the backers, then their section in the rest of the bytes
-  pub next-stored : (l o m : List ℕ) (k : ℕ) → k ≡ length (view_configs p.configs) → 121 + k ≤ length l → length (next_bytes held s p) ≤ length l → o ≡ put l 0 front → length o ≡ length l → m ≡ sets (mid_of (120 + k) (length o - (120 + k)) o) 0 (section_bytes prefix_bytes (next_members held s p)) → (true ≡ room l 0 (length (next_bytes held s p))) × (put_mid (120 + k) (length o - (120 + k)) o m ≡ put l 0 (next_bytes held s p))
-  next-stored l o m k e h fits f g q =
+  pub next-stored : (l o m : List ℕ) (k : ℕ) → k ≡ 5 + length (view_configs p.configs) → true ≡ leb (length (next_bytes held s p)) (length l) → o ≡ put l 0 front → length o ≡ length l → m ≡ sets (mid_of (115 + k) (length o - (115 + k)) o) 0 (section_bytes prefix_bytes (next_members held s p)) → (true ≡ room l 0 (length (next_bytes held s p))) × (put_mid (115 + k) (length o - (115 + k)) o m ≡ put l 0 (next_bytes held s p))
+  next-stored l o m k e h f g q =
+      let fits = next_sizes l h in
       let bytes = next_bytes held s p in
       let section = section_bytes prefix_bytes (next_members held s p) in
-      let j : 120 + k ≡ 120 + length (view_configs p.configs) = ap (λ (n : ℕ). 120 + n) e in
-      let w : put_mid (120 + k) (length o - (120 + k)) o m ≡ sets l 0 bytes = part-stored (120 + k) o m section (omega arith) q ∙ ap (λ (x : List ℕ). sets x (120 + k) section) f ∙ next-sets l (120 + k) j (omega arith) in
+      let j : 115 + k ≡ 120 + length (view_configs p.configs) = omega (arith, e) in
+      let w : put_mid (115 + k) (length o - (115 + k)) o m ≡ sets l 0 bytes = part-stored (115 + k) o m section (omega arith) q ∙ ap (λ (x : List ℕ). sets x (115 + k) section) f ∙ next-sets l (115 + k) j (omega arith) in
       stored l 0 (length bytes) bytes _ refl (le-leb (0 + length bytes) (length l) (omega (arith, fits))) w

@@ -11,8 +11,8 @@ use crate::TooShort;
 use cesr_write::matter::copy_matter;
 use codec::section::at_most_16;
 use events_tel::Listed;
-use registry_bytes::HeadPlaces;
 use registry_bytes::writer::copy_front;
+use registry_bytes::{HeadPlaces, Terms};
 use registry_room::NextState;
 use registry_room::next::{is_enough, next_size};
 use registry_rotation::deltas::found_in;
@@ -53,6 +53,7 @@ fn copy_members(s: &[u8], list: Listed, out: &mut [u8], at: usize)
 }
 
 // The section of the backers: survivors, then additions. Answers how many they are, since that is known when the survivors are stored.
+#[tactic(auto, using(registry_room::proofs::Counts::counted))]
 fn copy_backers(held: &[u8], s: &[u8], p: NextState, out: &mut [u8]) -> usize
     requires { 1 + 33 * length (next_members held.now s.now p) ≤ length out.old }
     ensures count { result ≡ length (next_members held.now s.now p) }
@@ -66,6 +67,7 @@ fn copy_backers(held: &[u8], s: &[u8], p: NextState, out: &mut [u8]) -> usize
 }
 
 // The bytes of a next state, stored from the start of `out` on: all of them or none. Answers how many they are, where they find no room too.
+#[tactic(auto, using(crate::proofs::Copies::next_sizes))]
 pub fn write_next(held: &[u8], s: &[u8], p: NextState, out: &mut [u8]) -> Result<usize, TooShort>
     ensures size { MatchResult result (λ size. size ≡ length (next_bytes held.now s.now p)) (λ short. short.size ≡ length (next_bytes held.now s.now p)) }
     ensures stored { (is_ok result ≡ room out.old 0 (length (next_bytes held.now s.now p))) × (out.new ≡ put out.old 0 (next_bytes held.now s.now p)) }
@@ -80,8 +82,12 @@ pub fn write_next(held: &[u8], s: &[u8], p: NextState, out: &mut [u8]) -> Result
         sn: p.sn,
         last: p.latest,
     };
-    copy_front(held, s, &head, p.toad, p.configs, out);
-    let behind = 120 + p.configs.size();
+    let terms = Terms {
+        toad: p.toad,
+        configs: p.configs,
+    };
+    copy_front(held, s, &head, terms, out);
+    let behind = 115 + terms.size();
     let count = copy_backers(held, s, p, &mut out[behind..]);
     Ok(behind + 1 + 33 * count)
 }

@@ -1,5 +1,5 @@
 -- The refusals: their numbers, dispositions and details (docs/RULES.md, "Refusals").
-use Rattle.std.specs.Prelude.{ℕ, List, [], ◌∷◌}
+use Rattle.std.specs.Prelude.{ℕ, List, [], ◌∷◌, Result, Ok, Err}
 use Rattle.registry_disposition.specs.Numbers.{value}
 use Rattle.events.specs.Members.{rule_of}
 use Rattle.registry_error.specs.declared.RegistryRejection.{RegistryRejection}
@@ -8,8 +8,6 @@ use Rattle.registry_disposition.specs.declared.EvidenceKind.TheVariants as E
 use Rattle.registry_disposition.specs.declared.Disposition.{Disposition}
 use Rattle.registry_disposition.specs.declared.Disposition.TheVariants.{Terminal, Contested, Awaiting}
 use Rattle.registry_disposition.specs.Dispositions.{out_of_order, letter_of}
-use Rattle.registry_error.specs.declared.Answer.{Answer}
-use Rattle.registry_error.specs.declared.Answer.TheVariants.{Accepted, Rejected}
 
 -- the number of a refusal
 abbrev pub number_of : RegistryRejection → ℕ
@@ -110,11 +108,15 @@ details_of R.InconsistentCredential = []
 details_of R.NoRoom = []
 details_of R.ShortBuffer = []
 
+-- an answer: the attempt is accepted, or refused for a reason
+abbrev pub Answer : Type 0
+Answer = Result Unit RegistryRejection
+
 -- an answer's number and letter: 0 and A where the attempt is accepted
 abbrev pub answer_number : Answer → ℕ
-answer_number Accepted = 0
-answer_number (Rejected r) = number_of r
+answer_number (Ok u) = 0
+answer_number (Err r) = number_of r
 
 abbrev pub answer_letter : Answer → ℕ
-answer_letter Accepted = 65
-answer_letter (Rejected r) = letter_of (disposition_of r)
+answer_letter (Ok u) = 65
+answer_letter (Err r) = letter_of (disposition_of r)

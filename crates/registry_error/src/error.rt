@@ -19,6 +19,7 @@ impl From<Broken> for RegistryRejection {
 }
 
 impl RegistryRejection {
+    // Some cases have details, so `as u8` does not give it.
     pub fn number(self) -> u8
         ensures { result ≡ number_of self }
     {

@@ -42,8 +42,5 @@ pub enum RegistryRejection {
     ShortBuffer,
 }
 
-#[derive(Clone, Copy)]
-pub enum Answer {
-    Accepted,
-    Rejected(RegistryRejection),
-}
+// What an attempt is given: it is accepted, or it is refused for a reason.
+pub type Answer = Result<(), RegistryRejection>;

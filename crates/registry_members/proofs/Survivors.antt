@@ -27,6 +27,14 @@ survivors-snoc cuts (y ∷ a) x = split (survivors cuts a) (has y cuts) (has x c
 pub survivors-step : (cuts l : List BasicPrefix) (i : ℕ) → i < length l → survivors cuts (take (i + 1) l) ≡ cond (has (at l i) cuts) (survivors cuts (take i l)) (survivors cuts (take i l) ++ (at l i ∷ []))
 survivors-step cuts l i h = rw (take_step l i no_prefix h) (survivors-snoc cuts (take i l) (at l i))
 
+-- and how many survive then
+pub survivors-count : (cuts l : List BasicPrefix) (i n : ℕ) (x : BasicPrefix) (t : Bool) → i < length l → x ≡ at l i → t ≡ has x cuts → n ≡ length (survivors cuts (take i l)) → cond t n (n + 1) ≡ length (survivors cuts (take (i + 1) l))
+survivors-count cuts l i n x t b e f h = rw (survivors-step cuts l i b, ← e, ← f) (go t)
+  where
+    go : (t : Bool) → cond t n (n + 1) ≡ length (cond t (survivors cuts (take i l)) (survivors cuts (take i l) ++ (x ∷ [])))
+    go true = h
+    go false = rw (length-append, h) refl
+
 -- no more survive than there were
 pub survivors-fewer : (cuts l : List BasicPrefix) → length (survivors cuts l) ≤ length l
 unfolding survivors

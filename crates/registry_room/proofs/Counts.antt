@@ -3,13 +3,12 @@
 --     survivors-kept, survivors-cut  one member more is looked at, and is not cut, or is
 --     count_kept, count_cut          how many survive then
 --     survivors-grow                 no fewer survive of more members
---     few-left, few-added            at most 16 of each
 --     length-next                    how many members there are then
 --     counted, few-next, most-next   how many members there are, by how many survive; at most 32; and no more than are held and added
 --     size-next                      how many bytes a next state has
 --     sized                          the bounds of what its size is summed of, and the sum
 use Prim.Native.Nat.{ℕ, zero, suc, ◌+◌, ◌*◌, ◌≤◌, min}
-use mathlib.Core.Path.{◌≡◌, refl, sym, ◌∙◌}
+use mathlib.Core.Path.{◌≡◌, refl, ◌∙◌}
 use mathlib.Core.Bool.{Bool, true, false, cond}
 use mathlib.Core.List.{List, [], ◌∷◌, ◌++◌}
 use native.Mathlib.Omega.{arith}
@@ -77,10 +76,7 @@ length-listed : (s : List ℕ) (l : Listed) → length (members_in s l) ≡ min 
 unfolding members_in
 length-listed s l = length-times read_prefix s l.start (min l.count 16)
 
-pub few-added : (s : List ℕ) (l : Listed) (n : ℕ) → n ≡ min l.count 16 → (n ≡ length (members_in s l)) × (n ≤ 16)
-few-added s l n e = (e ∙ sym (length-listed s l), omega arith)
-
-pub few-left : (held : List ℕ) (current : Listed) (s : List ℕ) (cuts : Listed) (n : ℕ) → n ≡ length (survivors (members_in s cuts) (members_in held current)) → n ≤ 16
+few-left : (held : List ℕ) (current : Listed) (s : List ℕ) (cuts : Listed) (n : ℕ) → n ≡ length (survivors (members_in s cuts) (members_in held current)) → n ≤ 16
 few-left held current s cuts n e = omega (arith, survivors-fewer (members_in s cuts) (members_in held current), length-listed held current)
 
 module _ (held s : List ℕ) (p : NextState) where

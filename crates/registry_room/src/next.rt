@@ -1,38 +1,25 @@
 // The next state of a registry, before it is written: what it is made of, and how many bytes it has.
 ghost use Rattle.std.specs.Prelude.{◌≡◌, leb, length};
-ghost use Rattle.events_tel.specs.TelEvents.{members_in};
-ghost use Rattle.registry_members.specs.Updated.{survivors};
 ghost use Rattle.registry_room.specs.NextStates.{next_bytes};
 
 use crate::NextState;
 use codec::section::at_most_16;
-use events_tel::Listed;
-use registry_rotation::deltas::found_in;
-
-// How many of a list in the held bytes are not cut.
-pub fn surviving(held: &[u8], current: Listed, s: &[u8], cuts: Listed) -> usize
-    ensures { result ≡ length (survivors (members_in s.now cuts) (members_in held.now current)) }
-{
-    let n = at_most_16(current.count);
-    let m = at_most_16(cuts.count);
-    let mut c = current.start;
-    let mut left: usize = 0;
-    for _i in 0..n {
-        let p = c.prefix(held);
-        c = p.next;
-        if !found_in(s, cuts.start, m, p.value) {
-            left += 1;
-        }
-    }
-    left
-}
+use registry_members::state::surviving;
+use registry_rotation::InBytes;
 
 // How many bytes a next state has. It is handed on by value, here and where it is written: of a struct behind a reference the prover does not know how long its arrays are, so the bound of the sum was not proved.
 pub fn next_size(held: &[u8], s: &[u8], p: NextState) -> usize
     ensures { result ≡ length (next_bytes held.now s.now p) }
 {
-    let left = surviving(held, p.current, s, p.cuts);
-    let count = left + at_most_16(p.additions.count);
+    let current = InBytes {
+        bytes: held,
+        list: p.current,
+    };
+    let cuts = InBytes {
+        bytes: s,
+        list: p.cuts,
+    };
+    let count = surviving(current, cuts) + at_most_16(p.additions.count);
     121 + p.configs.size() + 33 * count
 }
 

@@ -44,6 +44,6 @@ pub fn anchor_seals(section: &[u8], i: Matter, s: Sn, d: Said) -> bool
     let next = digest.pass_said(section);
     let whole = next.ok & (next.at == section.len());
     let t = Sn::read(section, number.at);
-    let wanted = i.same_at(section, from.at) & (t.same(s) & d.0.same_at(section, digest.at));
+    let wanted = i.same_at(section, from.at) & ((t == s) & d.0.same_at(section, digest.at));
     (kind.value == 4) & (whole & wanted)
 }

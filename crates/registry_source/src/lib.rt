@@ -2,27 +2,19 @@
 #![tactic(auto)]
 
 ghost use Rattle.std.specs.Prelude.{◌≡◌};
-ghost use Rattle.codec_cursor.specs.Readers.{section};
-ghost use Rattle.registry_source.specs.Sources.{read_source, view_sources};
+ghost use Rattle.codec_cursor.specs.Readers.{section, viewed};
+ghost use Rattle.registry_source.specs.Sources.{read_source, listed, sources_in};
 
 use cesr::Said;
 use cesr_sn::Sn;
 use codec::section::count_up_to;
-use codec_cursor::Cursor;
+use codec_cursor::{Cursor, Read};
 
 // The sn and the said of the anchoring event, as the attempt states them.
 #[derive(Clone, Copy)]
 pub struct Source {
     pub sn: Sn,
     pub said: Said,
-}
-
-// How many sources a section has, where its source stands, and the cursor behind it.
-#[derive(Clone, Copy)]
-pub struct SourcesRead {
-    pub count: usize,
-    pub source: Cursor,
-    pub next: Cursor,
 }
 
 impl Source {
@@ -37,6 +29,16 @@ impl Source {
         Source { sn, said }
     }
 
+    // The source of a section, where it has one.
+    pub fn stated(source: Option<Cursor>, s: &[u8]) -> Option<Source>
+        ensures { listed result ≡ sources_in s.now source }
+    {
+        match source {
+            Some(c) => Some(Source::read(c, s)),
+            None => None,
+        }
+    }
+
     // Behind it, where it keeps to its layout.
     fn pass(c: Cursor, s: &[u8]) -> Cursor
         ensures { result ≡ (read_source s.now c).next }
@@ -45,24 +47,20 @@ impl Source {
     }
 }
 
-// Behind section 7: at most one source.
-pub fn pass_sources(c: Cursor, s: &[u8]) -> SourcesRead
-    ensures { view_sources s.now result ≡ section 1 read_source s.now c }
+// Behind section 7: at most one source, and its place.
+pub fn pass_sources(c: Cursor, s: &[u8]) -> Read<Option<Cursor>>
+    ensures { viewed (sources_in s.now) result ≡ section 1 read_source s.now c }
 {
     let n = count_up_to(c, s, 1);
-    let count = n.value;
-    let source = n.next;
-    if count == 0 {
-        return SourcesRead {
-            count,
-            source,
-            next: source,
+    let start = n.next;
+    if n.value == 0 {
+        return Read {
+            value: None,
+            next: start,
         };
     }
-    let next = Source::pass(source, s);
-    SourcesRead {
-        count,
-        source,
-        next,
+    Read {
+        value: Some(start),
+        next: Source::pass(start, s),
     }
 }

@@ -15,8 +15,8 @@ use codec::section::{is_config, pass_prefixes, read_configs, read_prefixes};
 use codec::{Configs, Cursor, Read};
 use events::Members;
 use events_toad::Toad;
-use registry_bytes::HeadParts;
 use registry_bytes::writer::{state_size, write_registry};
+use registry_bytes::{HeadParts, Terms};
 
 impl RegistryState {
     // What stands where there is no registry.
@@ -65,7 +65,11 @@ impl RegistryState {
             sn: self.sn,
             last: self.latest.0,
         };
-        write_registry(out, at, &head, self.toad, self.configs, &self.backers)
+        let terms = Terms {
+            toad: self.toad,
+            configs: self.configs,
+        };
+        write_registry(out, at, &head, terms, &self.backers)
     }
 
     // Behind a state that is not wanted. It is held to its layout.

@@ -11,11 +11,11 @@ pub fn next_sn(held: Sn, sn: Sn) -> Answer
     ensures { result ≡ next_sn held sn }
 {
     if held.is_last() {
-        return Answer::Rejected(RegistryRejection::SequenceNumberOverflow);
+        return Err(RegistryRejection::SequenceNumberOverflow);
     }
     let expected = held.next();
     accept_if(
-        sn.same(expected),
+        sn == expected,
         RegistryRejection::OutOfOrder {
             expected,
             actual: sn,

@@ -3,17 +3,18 @@
 --     event-head       prefix, sn and said are read where they stand
 --     chosen-events    what is chosen of two events in bytes is what is chosen of the events
 --     used-event       the same of two parts of an attempt
+--     part-within      what is there of a part is the part
 --     event-seals      its seal section is the wanted one exactly when the list of its seals is
-use Prim.Native.Nat.{ℕ, ◌+◌, ◌-◌}
-use mathlib.Core.Path.{◌≡◌, refl, ap, subst}
+use Prim.Native.Nat.{ℕ, ◌+◌, ◌-◌, min}
+use mathlib.Core.Path.{◌≡◌, refl, ap, sym, subst, ◌∙◌}
 use mathlib.Core.List.{List, [], ◌∷◌, ◌++◌, append_assoc, append-nil}
 use mathlib.Core.Bool.{true, ◌&&◌}
 use native.Mathlib.Omega.{arith}
 use native.Mathlib.Decide.{dec_lt}
 use borrow.Author.Tests.{ne_eqb}
 use lib.Dec.{leb}
-use lib.ListN.{length, take, drop, length-append, length-take, get_or-eq_default}
-use lib.Seq.{drop_at, get_or-take, get_or-drop}
+use lib.ListN.{length, take, drop, length-append, length-take, length-drop, drop_of_length-le, get_or-eq_default}
+use lib.Seq.{drop_at, get_or-take, get_or-drop, take_all, take-nil}
 use Rattle.laws.specs.Number.{Bytes}
 use Rattle.laws.proofs.Tests.{and_left, and_right}
 use Rattle.cesr_sn.specs.Numbers.{read_sn, sn_bytes}
@@ -84,6 +85,28 @@ take-bytes n s b i =
     elim (dec_lt i n) [
       | yes l ↦ rw (get_or-take n s i 0 l) (b i)
       | no l ↦ rw (get_or-eq_default (take n s) 0 {n = i} (rw length-take (omega arith))) (omega arith)
+    ]
+
+-- what is there of a part is the part
+pub part-within : (s : List ℕ) (p : Part) (to from : ℕ) → to ≡ min p.to (length s) → from ≡ min p.from to → take (to - from) (drop from s) ≡ part_of s p
+unfolding part_of
+part-within s p to from e f =
+    elim (dec_lt to p.from) [
+      | yes l ↦
+          let z : to - from ≡ 0 = omega (arith, e, f) in
+          elim (dec_lt (length s) p.to) [
+            | yes m ↦ rw (z, drop_of_length-le s {i = p.from} (omega (arith, e)), take-nil (p.to - p.from))
+            | no m ↦ let y : p.to - p.from ≡ 0 = omega (arith, e) in rw (z, y)
+          ]
+      | no l ↦
+          let x : from ≡ p.from = omega (arith, f) in
+          elim (dec_lt (length s) p.to) [
+            | yes m ↦
+                let y : to ≡ length s = omega (arith, e) in
+                let d = drop p.from s in
+                rw (x, y) (take_all (length s - p.from) d (rw length-drop (omega arith)) ∙ sym (take_all (p.to - p.from) d (rw length-drop (omega arith))))
+            | no m ↦ let y : to ≡ p.to = omega (arith, e) in rw (x, y)
+          ]
     ]
 
 pub part_bytes : (s : List ℕ) (p : Part) → Bytes s → Bytes (part_of s p)

@@ -2,7 +2,8 @@
 --     anchors-in, signatures-in     what stands between the cursors is what was read
 --     anchors-hold                  and nothing else stands there
 --     evidence-issuer, evidence-state, evidence-plain   evidence, by its byte
---     issuer-read, state-read       what is kept of evidence stands for what was read
+--     issuer-read, state-read, backer-read, missing-read
+--                                   what is kept of evidence stands for what was read
 --     decode-read                   the parts, put together
 use Prim.Native.Nat.{ℕ, zero, suc, ◌+◌, ◌-◌, ◌≤◌, ◌<◌}
 use mathlib.Core.Path.{◌≡◌, refl, ap, sym, subst, ◌∙◌}
@@ -27,14 +28,15 @@ use Rattle.registry_seals.proofs.Codes.{codes-after}
 use Rattle.registry_seals.proofs.CodesList.{codes-times, codes-section}
 use Rattle.registry_state.specs.States.{read_registry}
 use Rattle.registry_source.specs.Sources.{read_source}
-use Rattle.registry_wire.specs.Attempts.{Anchor, Decoded, anchor_bytes, good_anchor, read_anchor, read_anchors, read_issuer, read_backer_at, read_evidence, read_message, decode_of, anchors_in, evidence_of, evidence_as, part_of, Holds, ReadAs, passed_anchors}
+use Rattle.registry_wire.specs.Attempts.{Anchor, Decoded, anchor_bytes, good_anchor, read_anchor, read_anchors, read_issuer, read_backer_at, read_evidence, read_message, decode_of, anchors_in, evidence_in, carried_in, part_of, Holds, ReadAs, passed_anchors}
 use Rattle.registry_signatures.specs.SignatureSections.{signature_bytes, good_signature, read_signature, signatures_in, passed_signatures}
 use Rattle.registry_wire.specs.Attempts.Evidence.{missing, issuer, backer}
 use Rattle.registry_wire.specs.Attempts.Decoded.{malformed, decoded}
 use Rattle.registry_source.specs.declared.Source.{Source}
 use Rattle.registry_wire.specs.declared.Part.{Part}
 use Rattle.registry_signatures.specs.declared.Counted.{Counted}
-use Rattle.registry_wire.specs.declared.EvidenceRead.{EvidenceRead}
+use Rattle.registry_wire.specs.declared.EvidenceAt.{EvidenceAt}
+use Rattle.registry_wire.specs.declared.EvidenceAt.TheVariants as E
 use Rattle.registry_wire.proofs.CodesAttempt.{codes-anchor, codes-signature, codes-evidence}
 
 -- a cursor that has not stopped is its place
@@ -92,18 +94,14 @@ module _ (s : List ℕ) (c : Cursor) (k : Read ℕ) (e : k ≡ read_byte s c) wh
   unfolding read_evidence
   evidence-plain h l = rw (← e, ne_eqb k.value 1 h, ne_eqb k.value 3 l)
 
--- the part of evidence that carries none
-abbrev nothing : Part
-nothing = record { from = 0; to = 0 }
-
-nothing-held : (s : List ℕ) → Holds s nothing
+nothing-held : (s : List ℕ) → Holds s (record { from = 0; to = 0 })
 unfolding part_of anchors_in joined
 nothing-held s = refl
 
 module _ (s : List ℕ) (c : Cursor) where
-  pub issuer-read : Bytes s → (d : Cursor) (a : Read Part) (g : Cursor) → d ≡ (read_identifier s c).next → a ≡ passed_anchors s d → ReadAs s (record { kind = 1; issuer = c.at; carried = a.value; management = g; next = a.next }) (read_issuer s c)
-  unfolding read_issuer read_identifier read_if evidence_of passed_anchors
-  issuer-read b d a g ed ea =
+  pub issuer-read : Bytes s → (d : Cursor) (a : Read Part) → d ≡ (read_identifier s c).next → a ≡ passed_anchors s d → ReadAs s (record { value = E.Issuer c.at a.value; next = a.next }) (read_issuer s c)
+  unfolding read_issuer read_identifier read_if passed_anchors
+  issuer-read b d a ed ea =
       let n : a.next ≡ (read_anchors s d).next = ap (λ (x : Read Part). x.next) ea in
       record {
         next = rw (← ed) n;
@@ -114,13 +112,15 @@ module _ (s : List ℕ) (c : Cursor) where
         holds = λ h. subst (λ (x : Read Part). Holds s x.value) (sym ea) (anchors-hold s d b (rw n at h));
       }
 
-  pub state-read : (d : Cursor) (m : ℕ) → d ≡ (read_registry s c).next → ReadAs s (record { kind = 3; issuer = m; carried = nothing; management = c; next = d }) (read_backer_at s c)
-  unfolding read_backer_at evidence_of
-  state-read d m e = record { next = e; value = λ h. refl; holds = λ h. nothing-held s }
+  pub state-read : (d : Cursor) → d ≡ (read_registry s c).next → ReadAs s (record { value = E.BackerAt c; next = d }) (read_backer_at s c)
+  unfolding read_backer_at
+  state-read d e = record { next = e; value = λ h. refl; holds = λ h. nothing-held s }
 
-  pub plain-read : (k m : ℕ) (g d : Cursor) → (k ≡ 1 → ⊥) → (k ≡ 3 → ⊥) → d ≡ c → ReadAs s (record { kind = k; issuer = m; carried = nothing; management = g; next = d }) (record { value = cond (eqb k 2) backer missing; next = c })
-  unfolding evidence_of
-  plain-read k m g d h l e = record { next = e; value = λ o. rw (ne_eqb k 1 h, ne_eqb k 3 l); holds = λ o. nothing-held s }
+  pub backer-read : (d : Cursor) → d ≡ c → ReadAs s (record { value = E.Backer; next = d }) (record { value = backer; next = c })
+  backer-read d e = record { next = e; value = λ h. refl; holds = λ h. nothing-held s }
+
+  pub missing-read : (d : Cursor) → d ≡ c → ReadAs s (record { value = E.Missing; next = d }) (record { value = missing; next = c })
+  missing-read d e = record { next = e; value = λ h. refl; holds = λ h. nothing-held s }
 
 -- what follows a test that fails does not matter
 where-true : (t q : Bool) (x y : Decoded) → (t ≡ true → x ≡ y) → cond (t && q) x malformed ≡ cond (t && q) y malformed
@@ -145,26 +145,26 @@ module _ (s : List ℕ) where
   evidence-at = counted 1 s count_at
 
   -- a cursor that has not stopped at the end had not stopped before
-  module _ (b : Bytes s) (v : EvidenceRead) (r : ReadAs s v (read_evidence s evidence-at)) (h : v.next.ok ≡ true) where
+  module _ (b : Bytes s) (v : Read EvidenceAt) (r : ReadAs s v (read_evidence s evidence-at)) (h : v.next.ok ≡ true) where
     count-ok : count_at.ok ≡ true
     count-ok = ((codes-after 1 (lit< tt) codes-evidence).sound s count_at b (rw r.next at h)).ok
 
     signature-ok : signature_at.ok ≡ true
     signature-ok = ((codes-section read_signature signature_bytes good_signature codes-signature 64 (lit< tt)).sound s signature_at b count-ok).ok
 
-  parts-read : Bytes s → (v : EvidenceRead) → ReadAs s v (read_evidence s evidence-at) → cond (v.next.ok && eqb v.next.at (length s)) (decoded (record { event = (read_event s starting).value; source = (section 1 read_source s source-at).value; anchor = anchors_in s (passed_anchors s anchor-at).value; signatures = signatures_in s (passed_signatures s signature_at).value; evidence = evidence_as s v.kind (read_matter s v.issuer) v.carried v.management })) malformed ≡ decode_of s
+  parts-read : Bytes s → (v : Read EvidenceAt) → ReadAs s v (read_evidence s evidence-at) → cond (v.next.ok && eqb v.next.at (length s)) (decoded (record { event = (read_event s starting).value; source = (section 1 read_source s source-at).value; anchor = anchors_in s (passed_anchors s anchor-at).value; signatures = signatures_in s (passed_signatures s signature_at).value; evidence = evidence_in s v.value })) malformed ≡ decode_of s
   unfolding decode_of read_message
   parts-read b v r =
       rw (← r.next)
       (where-true v.next.ok _ _ _
       (λ h. rw (anchors-in s anchor-at b (signature-ok b v r h), signatures-in s signature_at b (count-ok b v r h), r.value h)))
 
-  module _ (b : Bytes s) (e : Read Event) (o : Read (List Source)) (a : Read Part) (g : Read Counted) (d : Cursor) (v : EvidenceRead) (ee : e ≡ read_event s starting) (eo : o ≡ section 1 read_source s e.next) (ea : a ≡ passed_anchors s o.next) (eg : g ≡ passed_signatures s a.next) (ed : d ≡ counted 1 s g.next) (r : ReadAs s v (read_evidence s d)) where
+  module _ (b : Bytes s) (e : Read Event) (o : Read (List Source)) (a : Read Part) (g : Read Counted) (d : Cursor) (v : Read EvidenceAt) (ee : e ≡ read_event s starting) (eo : o ≡ section 1 read_source s e.next) (ea : a ≡ passed_anchors s o.next) (eg : g ≡ passed_signatures s a.next) (ed : d ≡ counted 1 s g.next) (r : ReadAs s v (read_evidence s d)) where
     last-read : ReadAs s v (read_evidence s evidence-at)
     unfolding passed_anchors passed_signatures
     last-read = rw (ed, eg, ea, eo, ee) at r
 
-    pub decode-read : (cond (v.next.ok && eqb v.next.at (length s)) (decoded (record { event = e.value; source = o.value; anchor = anchors_in s a.value; signatures = signatures_in s g.value; evidence = evidence_as s v.kind (read_matter s v.issuer) v.carried v.management })) malformed ≡ decode_of s) × ((v.next.ok && eqb v.next.at (length s)) ≡ true → Holds s a.value × Holds s v.carried)
+    pub decode-read : (cond (v.next.ok && eqb v.next.at (length s)) (decoded (record { event = e.value; source = o.value; anchor = anchors_in s a.value; signatures = signatures_in s g.value; evidence = evidence_in s v.value })) malformed ≡ decode_of s) × ((v.next.ok && eqb v.next.at (length s)) ≡ true → Holds s a.value × Holds s (carried_in v.value))
     unfolding passed_anchors passed_signatures
     decode-read = (
       rw (eg, ea, eo, ee) (parts-read b v last-read),

@@ -1,5 +1,5 @@
 -- Attempts: their layout and limits (docs/RULES.md, "Bytes"), and how they are read.
-use Rattle.std.specs.Prelude.{ℕ, ◌-◌, ◌≡◌, List, [], ◌∷◌, ◌++◌, Bool, true, cond, ◌&&◌, ◌||◌, leb, eqb, length, take, drop}
+use Rattle.std.specs.Prelude.{ℕ, ◌-◌, ◌≡◌, List, [], ◌∷◌, ◌++◌, Bool, true, cond, ◌&&◌, ◌||◌, leb, eqb, length, take, drop, Option, None, Some}
 use Rattle.cesr_sn.specs.Numbers.{sn_bytes}
 use Rattle.cesr.specs.Primitives.{matter_bytes, read_matter}
 use Rattle.cesr_sn.specs.declared.Sn.{Sn}
@@ -7,20 +7,19 @@ use Rattle.cesr.specs.declared.Matter.{Matter}
 use Rattle.cesr.specs.declared.Said.{Said}
 use Rattle.codec.specs.TelEvents.{Event, view_event}
 use Rattle.events_seal.specs.declared.Seal.{Seal}
-use Rattle.codec_cursor.specs.declared.Cursor.{Cursor}
 use Rattle.codec_cursor.specs.Readers.{Reader, placed, starting, need, read_byte, read_number, read_identifier, read_said, mapped, both, after, count_up_to, section}
 use Rattle.codec_cursor.specs.declared.Read.{Read}
 use Rattle.codec.specs.Events.{read_seal, read_event}
 use Rattle.codec.specs.Layout.{joined, section_bytes, all, said_bytes, seal_bytes, event_bytes, good_said, good_identifier, good_sn, good_seal, good_event}
 use Rattle.registry_state.specs.States.{Registry, registry_bytes, good_registry, read_registry}
-use Rattle.registry_source.specs.Sources.{source_bytes, good_source, read_source}
+use Rattle.registry_source.specs.Sources.{source_bytes, good_source, read_source, sources_in}
 use Rattle.registry_source.specs.declared.Source.{Source}
 use Rattle.registry_signatures.specs.SignatureSections.{signature_bytes, good_signature, read_signature, signatures_in}
 use Rattle.registry_signatures.specs.declared.Signature.{Signature}
 use Rattle.registry_wire.specs.declared.Part.{Part}
-use Rattle.registry_wire.specs.declared.DecodedAttempt.{DecodedAttempt}
 use Rattle.registry_wire.specs.declared.Attempt.{Attempt}
-use Rattle.registry_wire.specs.declared.EvidenceRead.{EvidenceRead}
+use Rattle.registry_wire.specs.declared.EvidenceAt.{EvidenceAt}
+use Rattle.registry_wire.specs.declared.EvidenceAt.TheVariants as E
 
 -- an anchoring event
 pub record Anchor : Type 0 where
@@ -130,30 +129,21 @@ decode_of s =
 unfoldable pub anchors_in : List ℕ → Part → List Anchor
 anchors_in s p = cond (eqb p.from p.to) [] ((read_anchor s (placed p.from)).value ∷ [])
 
-unfoldable pub sources_in : List ℕ → Attempt → List Source
-sources_in s a = cond (eqb a.sources 0) [] ((read_source s a.source).value ∷ [])
-
--- by the evidence's byte: of Issuer the prefix and the part that it carries, of BackerAt the state
-unfoldable pub evidence_of : List ℕ → ℕ → Matter → Part → Registry → Evidence
-evidence_of s kind prefix carried management =
-    cond (eqb kind 1) (issuer prefix (anchors_in s carried))
-    (cond (eqb kind 3) (backer_at management)
-    (cond (eqb kind 2) backer missing))
-
--- the state stays in the bytes
-abbrev pub evidence_as : List ℕ → ℕ → Matter → Part → Cursor → Evidence
-evidence_as s kind prefix carried management = evidence_of s kind prefix carried (read_registry s management).value
-
-abbrev pub evidence_in : List ℕ → Attempt → Evidence
-evidence_in s a = evidence_as s a.evidence (read_matter s a.issuer) a.carried a.management
+-- by the evidence's kind: of Issuer the prefix and what its part holds, of BackerAt the state
+abbrev pub evidence_in : List ℕ → EvidenceAt → Evidence
+evidence_in s E.Missing = missing
+evidence_in s (E.Issuer prefix carried) = issuer (read_matter s prefix) (anchors_in s carried)
+evidence_in s E.Backer = backer
+evidence_in s (E.BackerAt c) = backer_at (read_registry s c).value
 
 abbrev pub view_attempt : List ℕ → Attempt → Message
 view_attempt s a =
     record
-    { event = view_event s a.event; source = sources_in s a; anchor = anchors_in s a.anchor; signatures = signatures_in s a.signatures; evidence = evidence_in s a }
+    { event = view_event s a.event; source = sources_in s a.source; anchor = anchors_in s a.anchor; signatures = signatures_in s a.signatures; evidence = evidence_in s a.evidence }
 
-abbrev pub view_decoded : List ℕ → DecodedAttempt → Decoded
-view_decoded s r = cond r.ok (decoded (view_attempt s r.attempt)) malformed
+abbrev pub view_decoded : List ℕ → Option Attempt → Decoded
+view_decoded s None = malformed
+view_decoded s (Some a) = decoded (view_attempt s a)
 
 -- the anchoring event that is used: the evidence's where it carries one, else the message's
 abbrev pub chosen_anchors : List Anchor → List Anchor → List Anchor
@@ -172,8 +162,22 @@ part_of s p = take (p.to - p.from) (drop p.from s)
 abbrev pub Holds : List ℕ → Part → Type 0
 Holds s p = part_of s p ≡ joined anchor_bytes (anchors_in s p)
 
+-- the part of the evidence that carries an anchoring event, which is empty where none is carried
+abbrev pub carried_in : EvidenceAt → Part
+carried_in E.Missing = record { from = 0; to = 0 }
+carried_in (E.Issuer prefix carried) = carried
+carried_in E.Backer = record { from = 0; to = 0 }
+carried_in (E.BackerAt c) = record { from = 0; to = 0 }
+
 -- evidence that was read: the cursor behind it, and, where that has not stopped, what it stands for
-pub record ReadAs (s : List ℕ) (r : EvidenceRead) (e : Read Evidence) : Type 0 where
+pub record ReadAs (s : List ℕ) (r : Read EvidenceAt) (e : Read Evidence) : Type 0 where
   pub next : r.next ≡ e.next
-  pub value : r.next.ok ≡ true → evidence_as s r.kind (read_matter s r.issuer) r.carried r.management ≡ e.value
-  pub holds : r.next.ok ≡ true → Holds s r.carried
+  pub value : r.next.ok ≡ true → evidence_in s r.value ≡ e.value
+  pub holds : r.next.ok ≡ true → Holds s (carried_in r.value)
+
+-- what is known of the parts of an attempt that was decoded: each holds its anchoring event, at most one and within the limits
+pub record Anchored (s : List ℕ) (a : Attempt) : Type 0 where
+  pub message : Holds s a.anchor
+  pub good-message : good_anchors (anchors_in s a.anchor) ≡ true
+  pub carried : Holds s (carried_in a.evidence)
+  pub good-carried : good_anchors (anchors_in s (carried_in a.evidence)) ≡ true

@@ -1,8 +1,8 @@
 // The bytes around an event: sections 7 to 10, and whole attempts (docs/RULES.md, "Bytes").
 #![tactic(auto)]
 
-ghost use Rattle.std.specs.Prelude.{◌≡◌, true};
-ghost use Rattle.registry_wire.specs.Attempts.{read_anchor, read_issuer, read_backer_at, read_evidence, passed_anchors, part_of, Holds, ReadAs, view_decoded, decode_of};
+ghost use Rattle.std.specs.Prelude.{◌≡◌, IfSome};
+ghost use Rattle.registry_wire.specs.Attempts.{read_anchor, read_issuer, read_backer_at, read_evidence, passed_anchors, part_of, carried_in, Anchored, ReadAs, view_decoded, decode_of};
 
 use codec::TelEvent;
 use codec::section::count_up_to;
@@ -22,39 +22,23 @@ pub struct Part {
     pub to: usize,
 }
 
+// What the caller knows about the issuer or the backers, in its places in the bytes: of Issuer the prefix and the anchoring event that it carries, of BackerAt the state.
+#[derive(Clone, Copy)]
+pub enum EvidenceAt {
+    Missing,
+    Issuer { prefix: usize, carried: Part },
+    Backer,
+    BackerAt(Cursor),
+}
+
 // All but numbers and the event's own seal stays in the bytes, and the attempt says where it stands.
 #[derive(Clone, Copy)]
 pub struct Attempt {
     pub event: TelEvent,
-    // 0 or 1, and where the source stands where it is 1.
-    pub sources: usize,
-    pub source: Cursor,
+    pub source: Option<Cursor>,
     pub anchor: Part,
     pub signatures: Counted,
-    // 0 Missing, 1 Issuer, 2 Backer, 3 BackerAt.
-    pub evidence: u8,
-    // Of Issuer, where its prefix stands, and the anchoring event that it carries.
-    pub issuer: usize,
-    pub carried: Part,
-    // Of BackerAt, where its state stands.
-    pub management: Cursor,
-}
-
-// What the decoder answers. Where the bytes are malformed the attempt means nothing.
-#[derive(Clone, Copy)]
-pub struct DecodedAttempt {
-    pub ok: bool,
-    pub attempt: Attempt,
-}
-
-// Evidence, in the fields of an attempt. Those that its kind has no use for are blank.
-#[derive(Clone, Copy)]
-struct EvidenceRead {
-    kind: u8,
-    issuer: usize,
-    carried: Part,
-    management: Cursor,
-    next: Cursor,
+    pub evidence: EvidenceAt,
 }
 
 impl Part {
@@ -62,19 +46,21 @@ impl Part {
     pub fn bytes<'a>(self, s: &'a [u8]) -> &'a [u8]
         ensures { result.now ≡ part_of s.now self }
     {
-        let from = self.from;
-        let to = self.to;
-        let n = s.len();
-        if to <= from {
-            return &s[n..];
+        let to = self.to.min(s.len());
+        let from = self.from.min(to);
+        &s[from..to]
+    }
+}
+
+impl EvidenceAt {
+    // The part that carries an anchoring event.
+    pub fn carried(self) -> Part
+        ensures { result ≡ carried_in self }
+    {
+        match self {
+            EvidenceAt::Issuer { prefix: _, carried } => carried,
+            _ => Part { from: 0, to: 0 },
         }
-        if n <= from {
-            return &s[n..];
-        }
-        if to <= n {
-            return &s[from..to];
-        }
-        &s[from..]
     }
 }
 
@@ -108,37 +94,31 @@ fn pass_anchors(c: Cursor, s: &[u8]) -> Read<Part>
 }
 
 // Evidence 1, behind its byte: a prefix, and a section like that of the message's anchoring event.
-fn read_issuer(c: Cursor, s: &[u8]) -> EvidenceRead
+fn read_issuer(c: Cursor, s: &[u8]) -> Read<EvidenceAt>
     ensures { ReadAs s.now result (read_issuer s.now c) }
 {
     let a = pass_anchors(c.pass_identifier(s), s);
-    let carried = a.value;
-    let next = a.next;
-    let management = Cursor::start();
-    EvidenceRead {
-        kind: 1,
-        issuer: c.at,
-        carried,
-        management,
-        next,
+    let value = EvidenceAt::Issuer {
+        prefix: c.at,
+        carried: a.value,
+    };
+    Read {
+        value,
+        next: a.next,
     }
 }
 
 // Evidence 3, behind its byte: a registry state.
-fn read_backer_at(c: Cursor, s: &[u8]) -> EvidenceRead
+fn read_backer_at(c: Cursor, s: &[u8]) -> Read<EvidenceAt>
     ensures { ReadAs s.now result (read_backer_at s.now c) }
 {
-    let next = RegistryState::pass(c, s);
-    EvidenceRead {
-        kind: 3,
-        issuer: 0,
-        carried: Part { from: 0, to: 0 },
-        management: c,
-        next,
+    Read {
+        value: EvidenceAt::BackerAt(c),
+        next: RegistryState::pass(c, s),
     }
 }
 
-fn read_evidence(c: Cursor, s: &[u8]) -> EvidenceRead
+fn read_evidence(c: Cursor, s: &[u8]) -> Read<EvidenceAt>
     ensures { ReadAs s.now result (read_evidence s.now c) }
 {
     let k = c.byte(s);
@@ -150,21 +130,23 @@ fn read_evidence(c: Cursor, s: &[u8]) -> EvidenceRead
         return read_backer_at(k.next, s);
     }
     let next = k.next.expect_that((kind == 0) | (kind == 2));
-    let management = Cursor::start();
-    EvidenceRead {
-        kind,
-        issuer: 0,
-        carried: Part { from: 0, to: 0 },
-        management,
+    if kind == 2 {
+        return Read {
+            value: EvidenceAt::Backer,
+            next,
+        };
+    }
+    Read {
+        value: EvidenceAt::Missing,
         next,
     }
 }
 
 impl Attempt {
-    // Refused are bytes that break the layout or a limit, and bytes that go on behind section 10.
-    pub fn decode(s: &[u8]) -> DecodedAttempt
+    // None of bytes that break the layout or a limit, or that go on behind section 10.
+    pub fn decode(s: &[u8]) -> Option<Attempt>
         ensures view { view_decoded s.now result ≡ decode_of s.now }
-        ensures parts { result.ok ≡ true → Holds s.now result.attempt.anchor × Holds s.now result.attempt.carried }
+        ensures parts { IfSome result (Anchored s.now) }
     {
         let e = read_event(Cursor::start(), s);
         let o = pass_sources(e.next, s);
@@ -172,25 +154,15 @@ impl Attempt {
         let g = pass_signatures(a.next, s);
         let v = read_evidence(g.next.count(s, 1), s);
         let end = v.next;
-        let event = e.value;
-        let source = o.source;
-        let anchor = a.value;
-        let signatures = g.value;
-        let carried = v.carried;
-        let management = v.management;
-        DecodedAttempt {
-            ok: end.ok & (end.at == s.len()),
-            attempt: Attempt {
-                event,
-                sources: o.count,
-                source,
-                anchor,
-                signatures,
-                evidence: v.kind,
-                issuer: v.issuer,
-                carried,
-                management,
-            },
+        if !(end.ok & (end.at == s.len())) {
+            return None;
         }
+        Some(Attempt {
+            event: e.value,
+            source: o.value,
+            anchor: a.value,
+            signatures: g.value,
+            evidence: v.value,
+        })
     }
 }

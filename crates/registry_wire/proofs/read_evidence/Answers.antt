@@ -1,4 +1,5 @@
-use Rattle.registry_wire.proofs.AttemptLaws.{evidence-issuer, evidence-state, evidence-plain, plain-read}
+use borrow.Author.Tests.{ne_eqb}
+use Rattle.registry_wire.proofs.AttemptLaws.{evidence-issuer, evidence-state, evidence-plain, backer-read, missing-read}
 use Rattle.registry_wire.proofs.read_evidence.Goals as goal
 
 pub returns-then-kind-eq1 : goal.returns-then-kind-eq1
@@ -9,8 +10,10 @@ pub returns-then-kind-eq3 : goal.returns-then-kind-eq3
 returns-then-kind-eq3 c =
     rw (evidence-state _ _ _ c.byte-k.ensures c.if-kind-eq3.true) c.read_backer_at.ensures
 
+pub returns-then-kind-eq2 : goal.returns-then-kind-eq2
+returns-then-kind-eq2 c =
+    rw (evidence-plain _ _ _ c.byte-k.ensures c.if-kind-eq1.false c.if-kind-eq3.false, c.if-kind-eq2.true) (backer-read _ _ _ (rw c.if-kind-eq2.true at c.expect_that-next.ensures))
+
 pub returns : goal.returns
 returns c =
-    let n1 = c.if-kind-eq1.false in
-    let n3 = c.if-kind-eq3.false in
-    rw (evidence-plain _ _ _ c.byte-k.ensures n1 n3) (plain-read _ _ _ _ _ _ n1 n3 c.expect_that-next.ensures)
+    rw (evidence-plain _ _ _ c.byte-k.ensures c.if-kind-eq1.false c.if-kind-eq3.false, ne_eqb _ 2 c.if-kind-eq2.false) (missing-read _ _ _ (rw (ne_eqb _ 2 c.if-kind-eq2.false) at c.expect_that-next.ensures))

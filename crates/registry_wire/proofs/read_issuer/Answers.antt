@@ -4,4 +4,4 @@ use Rattle.registry_wire.proofs.read_issuer.Goals as goal
 
 pub returns : goal.returns
 returns c =
-    issuer-read _ _ (λ i. omega (arith, c.shared_slice_known-1.given i)) _ _ _ c.pass_identifier.ensures c.pass_anchors-a.ensures
+    issuer-read _ _ (λ i. omega (arith, c.shared_slice_known-1.given i)) _ _ c.pass_identifier.ensures c.pass_anchors-a.ensures

@@ -5,7 +5,7 @@ use Rattle.registry_bytes.proofs.StateWrites.{few-configs, front-stored, front-r
 use Rattle.registry_bytes.proofs.writer.copy_front.Goals as goal
 
 pub overflow_add-size : goal.overflow_add-size
-overflow_add-size c = omega (arith, few-configs c.args.configs (search rules))
+overflow_add-size c = omega (arith, few-configs c.args.terms.configs (search rules))
 
 pub returns-then-not-has_room : goal.returns-then-not-has_room
 returns-then-not-has_room c =
@@ -17,4 +17,4 @@ pub returns : goal.returns
 returns c =
     let a = c.args in
     let h = a.head.now in
-    front-stored a.out.now 0 (read_matter a.held.now h.first) _ _ _ _ _ c.size.result _ _ c.size.ensures c.if-not-has_room.ensures c.copy_credential.ensures.1 c.write_terms.ensures
+    front-stored a.out.now 0 (read_matter a.held.now h.first) _ _ _ _ _ c.size.result _ _ c.size.ensures c.if-not-has_room.ensures c.copy_credential.ensures.1 c.write.ensures

@@ -9,4 +9,4 @@ returns-then-not-has_room c =
 pub returns : goal.returns
 returns c =
     let a = c.args in
-    state-stored a.out.now a.at _ _ _ _ _ _ _ c.state_size.result c.size.result _ _ _ c.state_size.ensures c.if-not-has_room.ensures c.size.ensures c.write_credential.ensures.1 c.write_terms.ensures c.write_backers.ensures
+    state-stored a.out.now a.at _ _ _ _ _ _ _ c.state_size.result c.size.result _ _ _ c.state_size.ensures c.if-not-has_room.ensures c.size.ensures c.write_credential.ensures.1 c.write.ensures c.write_backers.ensures

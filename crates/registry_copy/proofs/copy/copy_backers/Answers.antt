@@ -13,26 +13,6 @@ pub copy_survivors-left-requires : goal.copy_survivors-left-requires
 copy_survivors-left-requires c =
     omega (arith, c.requires, length-next c.args.held.now c.args.s.now c.args.p)
 
-pub overflow_add-count : goal.overflow_add-count
-overflow_add-count c =
-    let a = c.args in
-    omega (arith, (counted a.held.now a.s.now a.p _ _ c.copy_survivors-left.ensures.left c.at_most_16.ensures).1)
-
-pub overflow_cast-out : goal.overflow_cast-out
-overflow_cast-out c =
-    let a = c.args in
-    omega (arith, (counted a.held.now a.s.now a.p _ _ c.copy_survivors-left.ensures.left c.at_most_16.ensures).1)
-
-pub overflow_mul-left : goal.overflow_mul-left
-overflow_mul-left c =
-    let a = c.args in
-    omega (arith, (counted a.held.now a.s.now a.p _ _ c.copy_survivors-left.ensures.left c.at_most_16.ensures).1)
-
-pub overflow_add-left : goal.overflow_add-left
-overflow_add-left c =
-    let a = c.args in
-    omega (arith, (counted a.held.now a.s.now a.p _ _ c.copy_survivors-left.ensures.left c.at_most_16.ensures).1)
-
 pub copy_members-requires : goal.copy_members-requires
 copy_members-requires c =
     let w = c.copy_survivors-left in

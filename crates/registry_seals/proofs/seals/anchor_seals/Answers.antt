@@ -1,3 +1,6 @@
+use mathlib.Core.Path.{◌∙◌}
+use native.Mathlib.Omega.{arith}
+use Rattle.cesr_sn.proofs.Order.{same_value}
 use Rattle.codec_cursor.specs.Readers.{starting, counted}
 use Rattle.registry_seals.specs.SealSections.{anchor_seals}
 use Rattle.registry_seals.proofs.InPlace.{in_place}
@@ -10,7 +13,7 @@ returns c =
     let b = a.section.now in
     rw (
       c.same_at-2.ensures,
-      c.same.ensures,
+      c.eq.ensures ∙ same_value c.read-t.result c.args.s (omega arith) (omega arith),
       c.same_at.ensures,
       c.read-t.ensures,
       c.pass_said-next.ensures,
