@@ -1,3 +1,3 @@
 pub use Rattle.registry_inception.proofs.InceptionLaws
-pub mod RegistryLaws
+pub mod RotationLaws
 pub mod WellLaws

@@ -1,5 +1,5 @@
 -- The issuer's evidence and the anchoring event (docs/RULES.md, "Evidence", "Anchoring events").
-use Rattle.std.specs.Prelude.{ℕ, ◌≡◌, List, [], ◌∷◌, Bool, true, false, cond, ◌&&◌, eqb, length}
+use Rattle.std.specs.Prelude.{ℕ, List, [], ◌∷◌, Bool, false, cond, ◌&&◌, eqb, length}
 use Rattle.cesr_sn.specs.Numbers.{value, read_sn}
 use Rattle.cesr.specs.Primitives.{eq_matter, eq_said, read_matter}
 use Rattle.cesr_sn.specs.declared.Sn.{Sn}
@@ -8,20 +8,18 @@ use Rattle.cesr.specs.declared.Said.{Said}
 use Rattle.registry_wire.specs.Attempts.{Anchor, Evidence, Message, chosen_anchors}
 use Rattle.registry_seals.specs.SealSections.{only_seal, seal_section, anchor_seals}
 use Rattle.registry_wire.specs.Attempts.Evidence.{missing, issuer, backer, backer_at}
-use Rattle.registry_wire.specs.Attempts.{good_anchors, anchors_in, Holds}
-use Rattle.registry_wire.specs.declared.Attempt.{Attempt}
 use Rattle.registry_wire.specs.declared.Source.{Source}
 use Rattle.registry_error.specs.declared.RegistryRejection.TheVariants.{MissingIssuer, InconsistentIssuer, MissingAnchor, InconsistentAnchor}
-use Rattle.registry_error.specs.declared.Answer.{Answer}
-use Rattle.registry_error.specs.declared.Answer.TheVariants.{Accepted, Rejected}
+use Rattle.registry_error.specs.Errors.{Answer}
+use Rattle.std.specs.Prelude.{Ok, Err}
 use Rattle.registry_answer.specs.Answers.{accept_if, first_of}
 
 -- 18 or 19: the evidence that is due is Issuer
 abbrev pub issuer_kind : Evidence → Answer
-issuer_kind missing = Rejected MissingIssuer
-issuer_kind (issuer prefix anchor) = Accepted
-issuer_kind backer = Rejected InconsistentIssuer
-issuer_kind (backer_at state) = Rejected InconsistentIssuer
+issuer_kind missing = Err MissingIssuer
+issuer_kind (issuer prefix anchor) = Ok tt
+issuer_kind backer = Err InconsistentIssuer
+issuer_kind (backer_at state) = Err InconsistentIssuer
 
 -- whether its prefix is this one
 abbrev pub names_issuer : Evidence → Matter → Bool
@@ -43,8 +41,8 @@ used_anchors m = chosen_anchors (carried_by m.evidence) m.anchor
 
 -- 20: no source, or no anchoring event; 21: it is the issuer's, at the source's sn and said, and its one seal is the event's
 abbrev pub anchored : Matter → Said → Sn → Said → List Source → List Anchor → Answer
-anchored i id sn said [] anchors = Rejected MissingAnchor
-anchored i id sn said (x ∷ l) [] = Rejected MissingAnchor
+anchored i id sn said [] anchors = Err MissingAnchor
+anchored i id sn said (x ∷ l) [] = Err MissingAnchor
 anchored i id sn said (x ∷ l) (a ∷ k) =
     accept_if
     ((eq_matter a.prefix i && (eqb (value a.sn) (value x.sn) && eq_said a.said x.said)) && only_seal a.seals id.0 sn said)
@@ -61,9 +59,9 @@ authenticate_issuer i id sn said m =
 
 -- 20 and 21 of an anchoring event in bytes: its prefix, sn and said stand in front of its seals
 abbrev pub anchored_in : Matter → Said → Sn → Said → List Source → List ℕ → Answer
-anchored_in i id sn said [] event = Rejected MissingAnchor
+anchored_in i id sn said [] event = Err MissingAnchor
 anchored_in i id sn said (x ∷ l) event =
-    cond (eqb (length event) 0) (Rejected MissingAnchor)
+    cond (eqb (length event) 0) (Err MissingAnchor)
     (accept_if
     ((eq_matter (read_matter event 0) i && (eqb (value (read_sn event 33)) (value x.sn) && eq_matter (read_matter event 49) x.said.0))
     && anchor_seals (seal_section event) id.0 sn said)
@@ -77,10 +75,3 @@ authenticate_in i id sn said e sources event =
     ∷ accept_if (names_issuer e i) InconsistentIssuer
     ∷ anchored_in i id sn said sources event
     ∷ [])
-
--- what is known of the parts of an attempt that was decoded: each holds its anchoring event, at most one and within the limits
-pub record Anchored (s : List ℕ) (a : Attempt) : Type 0 where
-  pub message : Holds s a.anchor
-  pub good-message : good_anchors (anchors_in s a.anchor) ≡ true
-  pub carried : Holds s a.carried
-  pub good-carried : a.evidence ≡ 1 → good_anchors (anchors_in s a.carried) ≡ true

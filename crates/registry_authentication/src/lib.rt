@@ -3,4 +3,4 @@
 
 pub mod issuer;
 
-pub use registry_wire::{Attempt, DecodedAttempt, RegistryState};
+pub use registry_wire::{Attempt, EvidenceAt, RegistryState};

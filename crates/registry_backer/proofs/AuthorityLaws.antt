@@ -1,106 +1,82 @@
--- The authority by the evidence's byte, but for the registry's own backers.
---     by-head      neither byte 1 nor 3: it is the registry's head, and only byte 2 says so
---     unresolved   what refuses to resolve it is the answer
---     by-held      byte 3: it is the state that is held
---     by-own       another byte: it is the registry itself, and no other state is looked at
--- What is left of a bis's or brv's authority by that.
+-- The authority of a bis or brv, part by part.
+--     event-seal     an event seal: 10, then by the evidence
+--     other-seal     22 of another seal
+--     unasked        evidence that is no Backer
 --     in-two-parts   the registry's own backers, behind the rest
---     asked_by       where they are asked about, by the byte
 use Prim.Native.Nat.{ℕ}
-use mathlib.Core.Path.{◌≡◌, refl, sym, ap, ◌∙◌}
+use mathlib.Core.Path.{◌≡◌, refl, sym}
 use mathlib.Core.List.{List, [], ◌∷◌}
-use mathlib.Core.Bool.{Bool, true, false, ◌&&◌, false≢true}
-use borrow.Author.Tests.{eqb-true, ne_eqb}
-use lib.Dec.{eqb}
+use mathlib.Core.Bool.{Bool, true, false, cond, false≢true}
 use Rattle.cesr.specs.Primitives.{eq_matter}
-use Rattle.cesr.specs.declared.Matter.{Matter}
 use Rattle.cesr.specs.declared.Said.{Said}
 use Rattle.cesr_sn.specs.declared.Sn.{Sn}
 use Rattle.events_seal.specs.Identifiers.{matter_of}
+use Rattle.events_seal.specs.declared.Identifier.{Identifier}
 use Rattle.events_seal.specs.declared.Seal.{Seal}
 use Rattle.events_seal.specs.declared.Seal.TheVariants.{Digest, Root, Source, Event, Last, Back, Kind, Opaque}
 use Rattle.registry_wire.specs.States.{Registry}
 use Rattle.registry_signatures.specs.declared.Signature.{Signature}
-use Rattle.registry_wire.specs.Attempts.{Evidence, evidence_of}
+use Rattle.registry_wire.specs.Attempts.{Evidence, evidence_in}
+use Rattle.registry_wire.specs.declared.EvidenceAt.{EvidenceAt}
+use Rattle.registry_wire.specs.declared.EvidenceAt.TheVariants as E
 use Rattle.registry_wire.specs.Attempts.Evidence.{missing, issuer, backer, backer_at}
-use Rattle.registry_wire.specs.declared.Part.{Part}
-use Rattle.registry_error.specs.declared.Answer.{Answer}
-use Rattle.registry_error.specs.declared.Answer.TheVariants.{Accepted, Rejected}
-use Rattle.registry_error.specs.declared.RegistryRejection.TheVariants.{InconsistentRegistry, UnresolvedAnchor}
+use Rattle.registry_error.specs.Errors.{Answer}
+use Rattle.std.proofs.Common.{Ok, Err}
+use Rattle.registry_error.specs.declared.RegistryRejection.TheVariants.{InconsistentRegistry, InconsistentManagement}
 use Rattle.registry_answer.specs.Answers.{accepts, accept_if, or_else, first_of}
-use Rattle.registry_answer.proofs.AnswerLaws.{first-refused, first-accepted, first-last}
-use Rattle.registry_backing.specs.Backings.{backed_by, own_where}
-use Rattle.registry_backer.specs.Backers.{stands_at, resolved_by, resolved, authenticate_backer, carried_backed, resolved_backer, asks_own}
+use Rattle.registry_answer.proofs.AnswerLaws.{first-last, or-nothing}
+use Rattle.registry_backing.specs.Backings.{own_where}
+use Rattle.registry_backer.proofs.SealLaws.{no-event-resolved}
+use Rattle.registry_backer.specs.Backers.{resolved_by, resolved, authenticate_backer, carried_backed, resolved_at, resolved_backer, asks_own}
 
-module _ (b : List ℕ) (n : ℕ) (p : Matter) (c : Part) where
-  head-or-none : (g h : Registry) (s : Sn) (d : Said) (t : Bool) → eqb n 2 ≡ t → (n ≡ 1 → ⊥) → (n ≡ 3 → ⊥) → accept_if (eqb n 2 && stands_at g s d) (UnresolvedAnchor s) ≡ resolved_by g s d (evidence_of b n p c h)
-  unfolding evidence_of accept_if
-  head-or-none g h s d true e k m = rw (ne_eqb n 1 k, ne_eqb n 3 m, e)
-  head-or-none g h s d false e k m = rw (ne_eqb n 1 k, ne_eqb n 3 m, e)
+-- 10 of an event seal, then the rest
+pub event-seal : (g : Registry) (i : Identifier) (s : Sn) (d : Said) (e : Evidence) (l : List Signature) → resolved_backer g (Event i s d) e l ≡ or_else (accept_if (eq_matter (matter_of i) g.id.0) InconsistentRegistry) (resolved_at g s d e l)
+unfolding resolved_backer first_of accept_if
+event-seal g i s d e l = go (eq_matter (matter_of i) g.id.0)
+  where
+    x : Answer
+    x = resolved_by g s d e
 
-  pub by-head : (g h : Registry) (s : Sn) (d : Said) → (n ≡ 1 → ⊥) → (n ≡ 3 → ⊥) → accept_if (eqb n 2 && stands_at g s d) (UnresolvedAnchor s) ≡ resolved_by g s d (evidence_of b n p c h)
-  by-head g h s d = head-or-none g h s d (eqb n 2) refl
+    y : Answer
+    y = carried_backed e l
 
-  none-carried-by : (h : Registry) (l : List Signature) (t u : Bool) → eqb n 1 ≡ t → eqb n 3 ≡ false → eqb n 2 ≡ u → carried_backed (evidence_of b n p c h) l ≡ Accepted
-  unfolding evidence_of
-  none-carried-by h l true u e f k = rw e
-  none-carried-by h l false true e f k = rw (e, f, k)
-  none-carried-by h l false false e f k = rw (e, f, k)
+    inner : (a b : Answer) → or_else a (or_else b (Ok tt)) ≡ or_else a b
+    inner (Ok u) b = or-nothing b
+    inner (Err r) b = refl
 
-  none-carried : (h : Registry) (l : List Signature) → (n ≡ 3 → ⊥) → carried_backed (evidence_of b n p c h) l ≡ Accepted
-  none-carried h l ne = none-carried-by h l (eqb n 1) (eqb n 2) refl (ne_eqb n 3 ne) refl
+    go : (t : Bool) → or_else (or_else (cond t (Ok tt) (Err InconsistentRegistry)) x) (or_else y (Ok tt)) ≡ or_else (cond t (Ok tt) (Err InconsistentRegistry)) (or_else x y)
+    go true = inner x y
+    go false = refl
 
-  held_carried : (h : Registry) (l : List Signature) → n ≡ 3 → carried_backed (evidence_of b n p c h) l ≡ backed_by h.toad h.backers l
-  unfolding evidence_of
-  held_carried h l e = rw e
+-- 22 of another seal
+pub other-seal : (g : Registry) (seal : Seal) (e : Evidence) (l : List Signature) → ((i : Identifier) (s : Sn) (d : Said) → seal ≡ Event i s d → ⊥) → Err InconsistentManagement ≡ resolved_backer g seal e l
+unfolding resolved_backer first_of
+other-seal g seal e l k = rw (← no-event-resolved g seal e k)
 
-  any-state : (g h : Registry) → (n ≡ 3 → ⊥) → evidence_of b n p c g ≡ evidence_of b n p c h
-  unfolding evidence_of
-  any-state g h ne = rw (ne_eqb n 3 ne)
+-- evidence that is no Backer leaves nothing to the registry's own backers
+pub unasked : (b : List ℕ) (e : EvidenceAt) → (e ≡ E.Backer → ⊥) → asks_own (evidence_in b e) ≡ false
+unasked b E.Missing k = refl
+unasked b (E.Issuer p c) k = refl
+unasked b E.Backer k = absurd (k refl)
+unasked b (E.BackerAt c) k = refl
 
-  asked-by-tests : (h : Registry) (t u v : Bool) → eqb n 1 ≡ t → eqb n 3 ≡ u → eqb n 2 ≡ v → asks_own (evidence_of b n p c h) ≡ eqb n 2
-  unfolding evidence_of
-  asked-by-tests h true u v e f k = rw (eqb-true n 1 e)
-  asked-by-tests h false true v e f k = rw (eqb-true n 3 f)
-  asked-by-tests h false false true e f k = rw (e, f, k)
-  asked-by-tests h false false false e f k = rw (e, f, k)
-
-  pub asked_by : (h : Registry) → asks_own (evidence_of b n p c h) ≡ eqb n 2
-  asked_by h = asked-by-tests h (eqb n 1) (eqb n 3) (eqb n 2) refl refl refl
-
-  -- x is what resolving answers, y what the state that is held comes to
-  module _ (g h : Registry) (seal : Seal) (l : List Signature) (x : Answer) where
-    pub unresolved : x ≡ resolved g seal (evidence_of b n p c h) → accepts x ≡ false → x ≡ resolved_backer g seal (evidence_of b n p c h) l
-    unfolding resolved_backer
-    unresolved e z = e ∙ sym (first-refused (resolved g seal (evidence_of b n p c h)) _ (ap accepts (sym e) ∙ z))
-
-    pub by-held : (y : Answer) → n ≡ 3 → x ≡ resolved g seal (evidence_of b n p c h) → accepts x ≡ true → y ≡ backed_by h.toad h.backers l → y ≡ resolved_backer g seal (evidence_of b n p c h) l
-    unfolding resolved_backer
-    by-held y k e z f =
-        let last = carried_backed (evidence_of b n p c h) l in
-        f ∙ sym (first-accepted (resolved g seal (evidence_of b n p c h)) (last ∷ []) (ap accepts (sym e) ∙ z) ∙ first-last last ∙ held_carried h l k)
-
-    pub by-own : (n ≡ 3 → ⊥) → x ≡ resolved g seal (evidence_of b n p c g) → x ≡ resolved_backer g seal (evidence_of b n p c h) l
-    unfolding resolved_backer first_of
-    by-own k e = rw (none-carried h l k, ← any-state g h k) (e ∙ sym (first-last (resolved g seal (evidence_of b n p c g))))
-
-own_behind : (x y : Answer) → first_of (x ∷ y ∷ []) ≡ or_else (first_of (x ∷ Accepted ∷ [])) y
+own_behind : (x y : Answer) → first_of (x ∷ y ∷ []) ≡ or_else (first_of (x ∷ (Ok tt) ∷ [])) y
 unfolding first_of
-own_behind Accepted y = first-last y
-own_behind (Rejected r) y = refl
+own_behind (Ok u) y = first-last y
+own_behind (Err r) y = refl
 
-none-behind : (x : Answer) → x ≡ or_else x Accepted
-none-behind Accepted = refl
-none-behind (Rejected r) = refl
+none-behind : (x : Answer) → x ≡ or_else x (Ok tt)
+none-behind (Ok u) = refl
+none-behind (Err r) = refl
 
-refused-anyway : (x y : Answer) → accepts x ≡ false → first_of (x ∷ y ∷ []) ≡ or_else (first_of (x ∷ Accepted ∷ [])) Accepted
+refused-anyway : (x y : Answer) → accepts x ≡ false → first_of (x ∷ y ∷ []) ≡ or_else (first_of (x ∷ (Ok tt) ∷ [])) (Ok tt)
 unfolding first_of
-refused-anyway Accepted y h = absurd (false≢true (sym h))
-refused-anyway (Rejected r) y h = refl
+refused-anyway (Ok u) y h = absurd (false≢true (sym h))
+refused-anyway (Err r) y h = refl
 
 or-refused : (x y : Answer) → accepts y ≡ false → accepts (or_else x y) ≡ false
-or-refused Accepted y h = h
-or-refused (Rejected q) y h = refl
+or-refused (Ok u) y h = h
+or-refused (Err q) y h = refl
 
 -- evidence that is refused whatever s and d are is refused whatever the seal is
 refused-by-any : (g : Registry) (seal : Seal) (e : Evidence) → ((s : Sn) (d : Said) → accepts (resolved_by g s d e) ≡ false) → accepts (resolved g seal e) ≡ false

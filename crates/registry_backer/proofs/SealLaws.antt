@@ -10,7 +10,7 @@ use Rattle.events_seal.specs.declared.Seal.{Seal}
 use Rattle.events_seal.specs.declared.Seal.TheVariants.{Event}
 use Rattle.registry_wire.specs.States.{Registry}
 use Rattle.registry_wire.specs.Attempts.{Evidence}
-use Rattle.registry_error.specs.declared.Answer.TheVariants.{Rejected}
+use Rattle.std.proofs.Common.{Err}
 use Rattle.registry_error.specs.declared.RegistryRejection.TheVariants.{InconsistentManagement}
 use Rattle.registry_backer.specs.Backers.{names_registry, resolved}
 
@@ -19,6 +19,6 @@ no-event-named (Event i s d) id k = absurd (k i s d refl)
 no-event-named _ id k = refl
 
 pub no-event-resolved :
-    (g : Registry) (seal : Seal) (e : Evidence) → ((i : Identifier) (s : Sn) (d : Said) → seal ≡ Event i s d → ⊥) → Rejected InconsistentManagement ≡ resolved g seal e
+    (g : Registry) (seal : Seal) (e : Evidence) → ((i : Identifier) (s : Sn) (d : Said) → seal ≡ Event i s d → ⊥) → Err InconsistentManagement ≡ resolved g seal e
 no-event-resolved g (Event i s d) e k = absurd (k i s d refl)
 no-event-resolved g _ e k = refl

@@ -14,8 +14,8 @@ use Rattle.registry_signatures.specs.declared.Signature.{Signature}
 use Rattle.registry_wire.specs.Attempts.{Evidence}
 use Rattle.registry_wire.specs.Attempts.Evidence.{missing, issuer, backer, backer_at}
 use Rattle.registry_error.specs.declared.RegistryRejection.TheVariants.{InconsistentRegistry, InconsistentIssuer, InconsistentManagement, UnresolvedAnchor}
-use Rattle.registry_error.specs.declared.Answer.{Answer}
-use Rattle.registry_error.specs.declared.Answer.TheVariants.{Accepted, Rejected}
+use Rattle.registry_error.specs.Errors.{Answer}
+use Rattle.std.specs.Prelude.{Ok, Err}
 use Rattle.registry_answer.specs.Answers.{accept_if, or_else, first_of}
 use Rattle.registry_backing.specs.Backings.{backed_by}
 
@@ -33,8 +33,8 @@ stands_at g s d = eqb (value g.sn) (value s) && eq_said g.latest d
 
 -- 22, 23 or 19 by the evidence: the state that the seal's s and d name is BackerAt's, or the registry's present head
 abbrev pub resolved_by : Registry → Sn → Said → Evidence → Answer
-resolved_by g s d missing = Rejected (UnresolvedAnchor s)
-resolved_by g s d (issuer prefix anchor) = Rejected InconsistentIssuer
+resolved_by g s d missing = Err (UnresolvedAnchor s)
+resolved_by g s d (issuer prefix anchor) = Err InconsistentIssuer
 resolved_by g s d backer = accept_if (stands_at g s d) (UnresolvedAnchor s)
 resolved_by g s d (backer_at h) = accept_if (same_registry h g && stands_at h s d) InconsistentManagement
 
@@ -51,14 +51,14 @@ names_registry Opaque id = false
 
 -- 22: the seal is of kind 4; 10: its i is the registry's id; then by the evidence
 abbrev pub resolved : Registry → Seal → Evidence → Answer
-resolved g Digest e = Rejected InconsistentManagement
-resolved g Root e = Rejected InconsistentManagement
-resolved g Source e = Rejected InconsistentManagement
+resolved g Digest e = Err InconsistentManagement
+resolved g Root e = Err InconsistentManagement
+resolved g Source e = Err InconsistentManagement
 resolved g (Event i s d) e = or_else (accept_if (eq_matter (matter_of i) g.id.0) InconsistentRegistry) (resolved_by g s d e)
-resolved g Last e = Rejected InconsistentManagement
-resolved g Back e = Rejected InconsistentManagement
-resolved g Kind e = Rejected InconsistentManagement
-resolved g Opaque e = Rejected InconsistentManagement
+resolved g Last e = Err InconsistentManagement
+resolved g Back e = Err InconsistentManagement
+resolved g Kind e = Err InconsistentManagement
+resolved g Opaque e = Err InconsistentManagement
 
 -- the state whose backers and toad are used
 abbrev pub authority : Registry → Evidence → Registry
@@ -75,10 +75,14 @@ authenticate_backer g seal e l = first_of (resolved g seal e ∷ backed_by (auth
 
 -- 24, 26, 27 of the state that BackerAt carries
 abbrev pub carried_backed : Evidence → List Signature → Answer
-carried_backed missing l = Accepted
-carried_backed (issuer prefix anchor) l = Accepted
-carried_backed backer l = Accepted
+carried_backed missing l = Ok tt
+carried_backed (issuer prefix anchor) l = Ok tt
+carried_backed backer l = Ok tt
 carried_backed (backer_at h) l = backed_by h.toad h.backers l
+
+-- 22, 23 or 19, then 24, 26, 27 of the state that BackerAt carries: of an event seal that names the registry
+abbrev pub resolved_at : Registry → Sn → Said → Evidence → List Signature → Answer
+resolved_at g s d e l = or_else (resolved_by g s d e) (carried_backed e l)
 
 -- 22 to 27, but for the registry's own backers
 unfoldable pub resolved_backer : Registry → Seal → Evidence → List Signature → Answer

@@ -1,50 +1,35 @@
 // The authority of a bis or brv (docs/RULES.md, "Evidence").
 ghost use Rattle.std.specs.Prelude.{ℕ, ◌≡◌, List};
-ghost use Rattle.cesr.specs.declared.Matter.{Matter};
 ghost use Rattle.cesr.specs.declared.BasicPrefix.{BasicPrefix};
 ghost use Rattle.registry_management.specs.Managements.{view_management};
-ghost use Rattle.registry_wire.specs.Attempts.{evidence_of, evidence_as};
+ghost use Rattle.registry_backing.specs.Backings.{own_among, own_where};
+ghost use Rattle.registry_wire.specs.Attempts.{evidence_in};
 ghost use Rattle.registry_signatures.specs.SignatureSections.{signatures_in};
-ghost use Rattle.registry_wire.specs.declared.Part.{Part};
-ghost use Rattle.registry_backer.specs.Backers.{same_registry, stands_at, resolved_by, names_registry, resolved, resolved_backer};
+ghost use Rattle.registry_backer.specs.Backers.{same_registry, stands_at, names_registry, resolved_at, resolved_backer, asks_own};
 
 use cesr::Said;
 use cesr_sn::Sn;
-use codec_cursor::Cursor;
 use events_seal::Seal;
-use registry_answer::answer::{accept_if, accepts};
+use registry_answer::answer::accept_if;
 use registry_backing::backing::backed_in;
 use registry_error::{Answer, RegistryRejection};
 use registry_management::{Management, read_management};
 use registry_signatures::Counted;
+use registry_wire::{Attempt, EvidenceAt};
 
 // Whether two states are of one registry: id, issuer and config are the same.
-pub fn same_registry(g: Management, h: Management) -> bool
-    ensures { (k l : List BasicPrefix) → result ≡ same_registry (view_management g k) (view_management h l) }
+pub fn same_registry(g: &Management, h: &Management) -> bool
+    ensures { (k l : List BasicPrefix) → result ≡ same_registry (view_management g.now k) (view_management h.now l) }
 {
-    g.id.same(h.id) & (g.issuer.same(h.issuer) & g.configs.same(h.configs))
+    let configs = g.configs.as_slice() == h.configs.as_slice();
+    (g.id == h.id) & ((g.issuer == h.issuer) & configs)
 }
 
 // Whether a state stands at this sn with this event.
 pub fn stands_at(g: Management, s: Sn, d: Said) -> bool
     ensures { (l : List BasicPrefix) → result ≡ stands_at (view_management g l) s d }
 {
-    g.sn.same(s) & g.latest.same(d)
-}
-
-// Whether the evidence has the state that the seal's s and d name.
-pub fn resolved_by(g: Management, s: Sn, d: Said, evidence: u8, management: Management) -> Answer
-    ensures { (b : List ℕ) (p : Matter) (c : Part) (k l : List BasicPrefix) → result ≡ resolved_by (view_management g k) s d (evidence_of b evidence p c (view_management management l)) }
-{
-    if evidence == 3 {
-        let held = same_registry(management, g) & stands_at(management, s, d);
-        return accept_if(held, RegistryRejection::InconsistentManagement);
-    }
-    if evidence == 1 {
-        return Answer::Rejected(RegistryRejection::InconsistentIssuer);
-    }
-    let head = (evidence == 2) & stands_at(g, s, d);
-    accept_if(head, RegistryRejection::UnresolvedAnchor { sn: s })
+    (g.sn == s) & (g.latest == d)
 }
 
 // Whether a seal names the registry.
@@ -52,59 +37,58 @@ pub fn names_registry(seal: Seal, id: Said) -> bool
     ensures { result ≡ names_registry seal id }
 {
     match seal {
-        Seal::Event { i, s: _, d: _ } => i.matter().same(id.0),
+        Seal::Event { i, s: _, d: _ } => i.matter() == id.0,
         _ => false,
     }
 }
 
-// Whether the seal is an event seal that names the registry, and the evidence has the state that it names.
-pub fn resolved(g: Management, seal: Seal, evidence: u8, management: Management) -> Answer
-    ensures { (b : List ℕ) (p : Matter) (c : Part) (k l : List BasicPrefix) → result ≡ resolved (view_management g k) seal (evidence_of b evidence p c (view_management management l)) }
+// The authority that a seal's s and d and the evidence name, and what it must have signed. BackerAt's state is read from its place in the bytes.
+fn resolved_at(s: &[u8], a: &Attempt, g: &Management, sn: Sn, d: Said) -> Answer
+    ensures { (l : List BasicPrefix) → result ≡ resolved_at (view_management g.now l) sn d (evidence_in s.now a.now.evidence) (signatures_in s.now a.now.signatures) }
 {
-    match seal {
-        Seal::Event { i, s, d } => {
-            if i.matter().same(g.id.0) {
-                return resolved_by(g, s, d, evidence, management);
-            }
-            Answer::Rejected(RegistryRejection::InconsistentRegistry)
+    match a.evidence {
+        EvidenceAt::Missing => Err(RegistryRejection::UnresolvedAnchor { sn }),
+        EvidenceAt::Issuer {
+            prefix: _,
+            carried: _,
+        } => Err(RegistryRejection::InconsistentIssuer),
+        EvidenceAt::Backer => {
+            accept_if(
+                stands_at(*g, sn, d),
+                RegistryRejection::UnresolvedAnchor { sn },
+            )
         }
-        _ => Answer::Rejected(RegistryRejection::InconsistentManagement),
+        EvidenceAt::BackerAt(c) => {
+            let held = read_management(c, s);
+            if !(same_registry(&held.value, g) & stands_at(held.value, sn, d)) {
+                return Err(RegistryRejection::InconsistentManagement);
+            }
+            backed_in(s, a.signatures, s, held.backers, held.value.toad)
+        }
     }
-}
-
-// The authority that BackerAt's state is, which is read from its place in the bytes.
-fn backed_at(
-    s: &[u8],
-    signatures: Counted,
-    g: Management,
-    seal: Seal,
-    evidence: u8,
-    management: Cursor,
-) -> Answer
-    requires { evidence ≡ 3 }
-    ensures { (p : Matter) (c : Part) (l : List BasicPrefix) → result ≡ resolved_backer (view_management g l) seal (evidence_as s.now evidence p c management) (signatures_in s.now signatures) }
-{
-    let held = read_management(management, s);
-    let found = resolved(g, seal, evidence, held.value);
-    if !accepts(found) {
-        return found;
-    }
-    backed_in(s, signatures, s, held.backers, held.value.toad)
 }
 
 // The authority that the event's seal and the evidence name, and what it must have signed, but for the registry's own backers: their list is the caller's.
-pub fn authenticate_backer(
-    s: &[u8],
-    signatures: Counted,
-    g: Management,
-    seal: Seal,
-    evidence: u8,
-    management: Cursor,
-) -> Answer
-    ensures { (p : Matter) (c : Part) (l : List BasicPrefix) → result ≡ resolved_backer (view_management g l) seal (evidence_as s.now evidence p c management) (signatures_in s.now signatures) }
+pub fn authenticate_backer(s: &[u8], a: &Attempt, g: &Management, seal: Seal) -> Answer
+    ensures { (l : List BasicPrefix) → result ≡ resolved_backer (view_management g.now l) seal (evidence_in s.now a.now.evidence) (signatures_in s.now a.now.signatures) }
 {
-    if evidence == 3 {
-        return backed_at(s, signatures, g, seal, evidence, management);
+    match seal {
+        Seal::Event { i, s: sn, d } => {
+            if i.matter() != g.id.0 {
+                return Err(RegistryRejection::InconsistentRegistry);
+            }
+            resolved_at(s, a, g, sn, d)
+        }
+        _ => Err(RegistryRejection::InconsistentManagement),
     }
-    resolved(g, seal, evidence, g)
+}
+
+// The signatures that the registry's own backers are asked about, where the evidence leaves that to them.
+pub fn own_signatures(a: &Attempt) -> Option<Counted>
+    ensures { (toad : ℕ) (l : List BasicPrefix) (b : List ℕ) → own_among toad l b result ≡ own_where (asks_own (evidence_in b a.now.evidence)) toad l (signatures_in b a.now.signatures) }
+{
+    match a.evidence {
+        EvidenceAt::Backer => Some(a.signatures),
+        _ => None,
+    }
 }

@@ -3,4 +3,4 @@
 
 pub mod backer;
 
-pub use registry_wire::{Attempt, DecodedAttempt};
+pub use registry_wire::Attempt;

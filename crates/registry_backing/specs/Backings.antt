@@ -5,8 +5,10 @@ use Rattle.events.specs.Members.{Membership, check_members}
 use Rattle.events_toad.specs.Toads.{exact_ok}
 use Rattle.registry_verification.specs.declared.Signature.{Signature}
 use Rattle.registry_error.specs.declared.RegistryRejection.TheVariants.{BackerThreshold, MissingBackerReceipts}
-use Rattle.registry_error.specs.declared.Answer.{Answer}
-use Rattle.registry_error.specs.declared.Answer.TheVariants.{Accepted}
+use Rattle.registry_error.specs.Errors.{Answer}
+use Rattle.std.specs.Prelude.{Ok, Option, None, Some}
+use Rattle.registry_verification.specs.SignatureSections.{signatures_in}
+use Rattle.registry_verification.specs.declared.Counted.{Counted}
 use Rattle.registry_answer.specs.Answers.{accept_if, backer_set, first_of}
 use Rattle.registry_verification.specs.Receipts.{receipts}
 
@@ -31,4 +33,9 @@ pub record Backs (repeat : Membership) (n : ℕ) (backers : List BasicPrefix) : 
 
 -- 24, 26, 27 of the registry's own toad and backers, where they are asked about
 unfoldable pub own_where : Bool → ℕ → List BasicPrefix → List Signature → Answer
-own_where own toad backers l = cond own (backed_by toad backers l) Accepted
+own_where own toad backers l = cond own (backed_by toad backers l) (Ok tt)
+
+-- the same, with the place of the signatures that they are asked about
+abbrev pub own_among : ℕ → List BasicPrefix → List ℕ → Option Counted → Answer
+own_among toad backers s None = Ok tt
+own_among toad backers s (Some c) = backed_by toad backers (signatures_in s c)

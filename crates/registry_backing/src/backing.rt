@@ -4,13 +4,13 @@ ghost use Rattle.cesr.specs.declared.BasicPrefix.{BasicPrefix};
 ghost use Rattle.events.specs.Members.{view};
 ghost use Rattle.codec.specs.TelEvents.{members_in};
 ghost use Rattle.registry_verification.specs.SignatureSections.{signatures_in};
-ghost use Rattle.registry_backing.specs.Backings.{enough_receipts, backed_by, Backs, own_where};
+ghost use Rattle.registry_backing.specs.Backings.{enough_receipts, backed_by, Backs, own_among};
 
 use codec::Listed;
 use codec::section::at_most_16;
 use events::{Broken, Members};
 use events_toad::Toad;
-use registry_answer::answer::{accept_if, accepts, backer_set};
+use registry_answer::answer::accept_if;
 use registry_error::{Answer, RegistryRejection};
 use registry_rotation::{InBytes, check_members};
 use registry_verification::Counted;
@@ -39,12 +39,9 @@ fn backed_by(
 ) -> Answer
     ensures { (l : List BasicPrefix) → Backs repeat count l → result ≡ backed_by toad.0 l (signatures_in s.now signatures) }
 {
-    let members = backer_set(repeat);
-    if !accepts(members) {
-        return members;
-    }
+    repeat?;
     if !toad.is_exact(count) {
-        return Answer::Rejected(RegistryRejection::BackerThreshold);
+        return Err(RegistryRejection::BackerThreshold);
     }
     enough_receipts(s, signatures, count, toad)
 }
@@ -61,31 +58,26 @@ pub fn backed_in(s: &[u8], signatures: Counted, held: &[u8], backers: Listed, to
     backed_by(s, signatures, repeat, count, toad)
 }
 
-// The rules on the registry's own backers, where they are asked about, over the bytes that its state is held in.
-pub fn own_in(
-    own: bool,
-    s: &[u8],
-    signatures: Counted,
-    held: &[u8],
-    backers: Listed,
-    toad: Toad,
-) -> Answer
-    ensures { result ≡ own_where own toad.0 (members_in held.now backers) (signatures_in s.now signatures) }
+// The rules on the registry's own backers, with the signatures that they are asked about, over the bytes that its state is held in.
+pub fn own_in(own: Option<Counted>, s: &[u8], held: &[u8], backers: Listed, toad: Toad) -> Answer
+    ensures { result ≡ own_among toad.0 (members_in held.now backers) s.now own }
 {
-    if own {
+    if let Some(signatures) = own {
         return backed_in(s, signatures, held, backers, toad);
     }
-    Answer::Accepted
+    Ok(())
 }
 
 // The same of a list.
-pub fn own_of(own: bool, s: &[u8], signatures: Counted, backers: Members, toad: Toad) -> Answer
-    ensures { result ≡ own_where own toad.0 (view backers) (signatures_in s.now signatures) }
+pub fn own_of(own: Option<Counted>, s: &[u8], backers: &Members, toad: Toad) -> Answer
+    ensures { result ≡ own_among toad.0 (view backers.now) s.now own }
 {
-    if !own {
-        return Answer::Accepted;
+    match own {
+        Some(signatures) => {
+            let repeat = check_members(backers.as_slice());
+            let count = backers.size();
+            backed_by(s, signatures, repeat, count, toad)
+        }
+        None => Ok(()),
     }
-    let repeat = check_members(backers.as_slice());
-    let count = backers.size();
-    backed_by(s, signatures, repeat, count, toad)
 }

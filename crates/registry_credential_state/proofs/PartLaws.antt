@@ -1,14 +1,11 @@
 -- The fold of a revocation in its parts.
 --     ingest-parts     what the registry's own backers and the held state come to stands behind the rest
--- Its answer, where each part that refuses is returned.
---     answer-decides, own-decides, place-decides
 use Prim.Native.Nat.{ℕ}
-use mathlib.Core.Path.{◌≡◌, refl, sym, ap, ◌∙◌}
+use mathlib.Core.Path.{◌≡◌, refl, ap, ◌∙◌}
 use mathlib.Core.List.{List, [], ◌∷◌}
-use mathlib.Core.Bool.{Bool, true, false, not}
+use mathlib.Core.Bool.{not}
 use Rattle.cesr.specs.Primitives.{said_at, eq_said}
 use Rattle.cesr.specs.declared.Said.{Said}
-use Rattle.cesr.specs.declared.BasicPrefix.{BasicPrefix}
 use Rattle.events_tel.specs.TelEvents.{event_as, sn_one}
 use Rattle.events_seal.specs.declared.Seal.{Seal}
 use Rattle.events_tel.specs.declared.Kind.{Kind}
@@ -16,23 +13,21 @@ use Rattle.events_tel.specs.declared.Kind.TheVariants.{Vcp, Vrt, Iss, Rev, Bis, 
 use Rattle.events_tel.specs.declared.TelEvent.{TelEvent}
 use Rattle.registry_state.specs.States.{Registry}
 use Rattle.registry_state_credential.specs.declared.CredentialState.{CredentialState}
-use Rattle.registry_signatures.specs.SignatureSections.{signatures_in}
 use Rattle.registry_backer.specs.Attempts.{Message, view_attempt}
 use Rattle.registry_backer.specs.declared.Attempt.{Attempt}
-use Rattle.registry_answer.specs.Answers.{accepts, accept_if, or_else, first_of}
-use Rattle.registry_answer.proofs.AnswerLaws.{or-passes, or-refuses, first-last}
+use Rattle.registry_answer.specs.Answers.{accept_if, or_else, first_of}
+use Rattle.registry_answer.proofs.AnswerLaws.{first-last}
 use Rattle.registry_transition.specs.Transitions.{transition}
 use Rattle.registry_authentication.specs.Issuers.{anchored, authenticate_issuer}
 use Rattle.registry_backing.specs.Backings.{own_where}
 use Rattle.registry_backer.specs.Backers.{is_backerless, names_registry, authenticate_backer, resolved_backer, asks_own}
 use Rattle.registry_backer.proofs.AuthorityLaws.{in-two-parts}
 use Rattle.registry_issue.proofs.OwnLaws.{in_parts, issuer-own}
-use Rattle.registry_error.specs.declared.Answer.{Answer}
-use Rattle.registry_error.specs.declared.Answer.TheVariants.{Accepted, Rejected}
+use Rattle.registry_error.specs.Errors.{Answer}
+use Rattle.std.proofs.Common.{Ok, Err}
 use Rattle.registry_error.specs.declared.RegistryRejection.TheVariants.{InconsistentRegistry, SimpleEventOnBackerRegistry, BackedEventOnBackerlessRegistry}
 use Rattle.registry_credential_state.specs.CredentialFolds.{rev_answer, brv_answer, ingest_event, ingest_answer}
-use Rattle.registry_credential_state.specs.CredentialParts.{rev_resolved, brv_resolved, event_resolved, ingest_resolved, revocation_answer}
-use Rattle.registry_credential_state.specs.declared.Revocation.{Revocation}
+use Rattle.registry_credential_state.specs.CredentialParts.{rev_resolved, brv_resolved, event_resolved}
 
 module _ (g : Registry) (w : CredentialState) (said credential prior : Said) (m : Message) where
   abbrev own : Answer
@@ -80,33 +75,16 @@ module _ (g : Registry) (w : CredentialState) (s : List ℕ) (e : TelEvent) (m :
   event-parts Brv = brv-parts g w said credential prior m e.seal
 
 joined : (x y z : Answer) → or_else x (or_else y z) ≡ or_else (or_else x y) z
-joined Accepted y z = refl
-joined (Rejected r) y z = refl
+joined (Ok u) y z = refl
+joined (Err r) y z = refl
 
-pub ingest-parts : (g : Registry) (w : CredentialState) (s : List ℕ) (a : Attempt) → ingest_answer g w (view_attempt s a) ≡ or_else (ingest_resolved true (eq_said w.registry g.id) g (view_attempt s a)) (rest g w s a.event (view_attempt s a))
-unfolding ingest_answer ingest_resolved accept_if
+-- 10 of the held state, and the checks of the event but for the two
+abbrev pub held_resolved : Registry → CredentialState → Message → Answer
+held_resolved g w m = or_else (accept_if (eq_said w.registry g.id) InconsistentRegistry) (event_resolved g m.event m)
+
+pub ingest-parts : (g : Registry) (w : CredentialState) (s : List ℕ) (a : Attempt) → ingest_answer g w (view_attempt s a) ≡ or_else (held_resolved g w (view_attempt s a)) (rest g w s a.event (view_attempt s a))
+unfolding ingest_answer
 ingest-parts g w s a =
     let here = accept_if (eq_said w.registry g.id) InconsistentRegistry in
     let m = view_attempt s a in
     ap (or_else here) (event-parts g w s a.event m a.event.kind) ∙ joined here (event_resolved g m.event m) (rest g w s a.event m)
-
--- t and u are the code's tests whether an answer accepts, and y is what the registry's own backers come to
-module _ (toad : ℕ) (backers : List BasicPrefix) (w : CredentialState) (s : List ℕ) (r : Revocation) (t : Bool) (f : t ≡ accepts r.answer) where
-  abbrev asked : Answer
-  asked = own_where r.own toad backers (signatures_in s r.signatures)
-
-  abbrev place : Answer
-  place = transition w (said_at s r.credential) (said_at s r.prior)
-
-  pub answer-decides : t ≡ false → r.answer ≡ revocation_answer toad backers w s r
-  unfolding revocation_answer
-  answer-decides h = sym (or-refuses r.answer r.answer (or_else asked place) t refl f h)
-
-  module _ (h : t ≡ true) (y : Answer) (e : y ≡ asked) (u : Bool) (k : u ≡ accepts y) where
-    pub own-decides : u ≡ false → y ≡ revocation_answer toad backers w s r
-    unfolding revocation_answer
-    own-decides z = sym (or-passes r.answer r.answer (or_else asked place) t refl f h ∙ or-refuses y asked place u e k z)
-
-    pub place-decides : u ≡ true → (x : Answer) → x ≡ place → x ≡ revocation_answer toad backers w s r
-    unfolding revocation_answer
-    place-decides z x p = p ∙ sym (or-passes r.answer r.answer (or_else asked place) t refl f h ∙ or-passes y asked place u e k z)

@@ -12,8 +12,8 @@ use Rattle.registry_state_credential.specs.declared.CredentialState.{CredentialS
 use Rattle.registry_backer.specs.Attempts.{Message, Decoded, decode_of}
 use Rattle.registry_backer.specs.Attempts.Decoded.{malformed, decoded}
 use Rattle.registry_error.specs.declared.RegistryRejection.TheVariants.{Malformed, NotCredentialTransition, InconsistentRegistry, SimpleEventOnBackerRegistry, BackedEventOnBackerlessRegistry}
-use Rattle.registry_error.specs.declared.Answer.{Answer}
-use Rattle.registry_error.specs.declared.Answer.TheVariants.{Rejected}
+use Rattle.registry_error.specs.Errors.{Answer}
+use Rattle.std.specs.Prelude.{Err}
 use Rattle.registry_answer.specs.Answers.{accepts, accept_if, or_else, first_of}
 use Rattle.registry_authentication.specs.Issuers.{anchored, authenticate_issuer}
 use Rattle.registry_backer.specs.Backers.{is_backerless, names_registry, authenticate_backer}
@@ -50,11 +50,11 @@ brv_answer g w said credential prior seal m =
 
 -- 9: another kind than a rev and a brv
 abbrev pub each_transition : (Said → Said → Said → Said → Answer) → (Said → Said → Said → Seal → Answer) → Event → Answer
-each_transition on_rev on_brv (vcp said issuer toad configs backers) = Rejected NotCredentialTransition
-each_transition on_rev on_brv (vrt said registry prior sn toad cuts additions) = Rejected NotCredentialTransition
-each_transition on_rev on_brv (iss said credential registry) = Rejected NotCredentialTransition
+each_transition on_rev on_brv (vcp said issuer toad configs backers) = Err NotCredentialTransition
+each_transition on_rev on_brv (vrt said registry prior sn toad cuts additions) = Err NotCredentialTransition
+each_transition on_rev on_brv (iss said credential registry) = Err NotCredentialTransition
 each_transition on_rev on_brv (rev said credential registry prior) = on_rev said credential registry prior
-each_transition on_rev on_brv (bis said credential registry seal) = Rejected NotCredentialTransition
+each_transition on_rev on_brv (bis said credential registry seal) = Err NotCredentialTransition
 each_transition on_rev on_brv (brv said credential prior seal) = on_brv said credential prior seal
 
 abbrev pub ingest_event : Registry → CredentialState → Event → Message → Answer
@@ -83,12 +83,12 @@ ingest_message g w m =
     record { answer = ingest_answer g w m; state = cond (accepts (ingest_answer g w m)) (revoked w m.event) w }
 
 abbrev pub ingest_decoded : Registry → CredentialState → Decoded → Outcome
-ingest_decoded g w malformed = record { answer = Rejected Malformed; state = w }
+ingest_decoded g w malformed = record { answer = Err Malformed; state = w }
 ingest_decoded g w (decoded m) = ingest_message g w m
 
 -- 1 before everything, of both states that are handed in too
 abbrev pub ingest_if : Bool → Registry → CredentialState → List ℕ → Outcome
-ingest_if well g w s = cond well (ingest_decoded g w (decode_of s)) (record { answer = Rejected Malformed; state = w })
+ingest_if well g w s = cond well (ingest_decoded g w (decode_of s)) (record { answer = Err Malformed; state = w })
 
 unfoldable pub ingest_of : RegistryState → CredentialState → List ℕ → Outcome
 ingest_of g w s = ingest_if (well_registry g && well_credential w) (view_registry g) w s

@@ -3,15 +3,12 @@
 
 pub mod credential_state;
 
-use registry_error::Answer;
 use registry_signatures::Counted;
 
-// An answer to a revocation, but for what its callers have: the list of the registry's own backers, and the held state. Beside it stands whether those backers are asked about, and where what is compared and kept stands in the attempt's bytes. The places mean something where the answer accepts.
+// A revocation that is accepted but for what its callers have, the list of the registry's own backers and the held state: the signatures that those backers are still asked about, if they are, and where what is compared and kept stands in the attempt's bytes.
 #[derive(Clone, Copy)]
 pub struct Revocation {
-    pub answer: Answer,
-    pub own: bool,
-    pub signatures: Counted,
+    pub own: Option<Counted>,
     pub credential: usize,
     pub prior: usize,
     pub said: usize,

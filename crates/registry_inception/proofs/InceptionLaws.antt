@@ -1,41 +1,45 @@
 -- The inception of a registry over decoded attempts.
---     other-kind         6
---     unfit, evidence-decides, event-decides   the checks made one after the other: the first that refuses is the answer
---     incept-bytes       the outcome of an answer and of what stands beside it
---     incept-within      an accepted inception leaves a state with the letters and bytes of its places
+--     vcp-kind, other-kind   6
 --     incept-kind        what an accepted attempt was
+--     incept-refused, incept-accepted   the outcome of the bytes of an attempt, by what its checks come to
+--     incept-within      an accepted inception leaves a state with the letters and bytes of its places
 --     incept-lettered    an accepted attempt leaves a state with the letters and bytes of its places
-use Prim.Native.Nat.{ℕ}
-use mathlib.Core.Path.{◌≡◌, refl, ap, sym, ◌∙◌}
+use Prim.Native.Nat.{ℕ, ◌≤◌, min}
+use mathlib.Core.Path.{◌≡◌, refl}
 use mathlib.Core.List.{List}
-use mathlib.Core.Bool.{Bool, true, false, ◌&&◌, false≢true}
+use mathlib.Core.Bool.{true, ◌&&◌, false≢true}
 use lib.Dec.{leb}
 use lib.ListN.{length}
 use Rattle.laws.specs.Number.{Bytes}
 use Rattle.laws.proofs.Tests.{and_left}
-use Rattle.events_tel.specs.TelEvents.{Event, event_as, view_event}
+use Rattle.codec_cursor.specs.Readers.{read_prefix}
+use Rattle.codec.proofs.Loops.{length-times}
+use Rattle.events_tel.specs.declared.Listed.{Listed}
+use Rattle.events_tel.specs.TelEvents.{Event, event_as, view_event, members_in}
+use Rattle.cesr.specs.Primitives.{said_at, read_matter}
+use Rattle.events_tel.specs.Configs.{view_configs}
 use Rattle.events_tel.specs.TelEvents.Event.{vcp, vrt, iss, rev, bis, brv}
 use Rattle.events_tel.specs.declared.Kind.{Kind}
 use Rattle.events_tel.specs.declared.Kind.TheVariants.{Vcp, Vrt, Iss, Rev, Bis, Brv}
 use Rattle.events_tel.specs.declared.TelEvent.{TelEvent}
 use Rattle.codec.specs.Layout.{all, good_event}
-use Rattle.registry_authentication.specs.States.{Registry, no_registry}
+use Rattle.registry_authentication.specs.States.{view_registry, well_registry}
+use Rattle.registry_authentication.specs.declared.RegistryState.{RegistryState}
 use Rattle.registry_source.specs.Sources.{good_source}
-use Rattle.registry_authentication.specs.Attempts.{Message, Decoded, good_anchors, good_evidence, good_message, view_attempt, view_decoded, decode_of}
+use Rattle.registry_authentication.specs.Attempts.{Message, Decoded, good_anchors, good_evidence, good_message, view_attempt, decode_of}
 use Rattle.registry_authentication.specs.Attempts.Decoded.{malformed, decoded}
 use Rattle.registry_authentication.proofs.CodesAttempt.{decodes}
 use Rattle.registry_signatures.specs.SignatureSections.{good_signature}
 use Rattle.registry_authentication.specs.declared.Attempt.{Attempt}
-use Rattle.registry_authentication.specs.declared.DecodedAttempt.{DecodedAttempt}
-use Rattle.registry_answer.specs.Answers.{accepts, accept_if, or_else}
-use Rattle.registry_error.specs.declared.Answer.{Answer}
-use Rattle.registry_error.specs.declared.Answer.TheVariants.{Rejected}
-use Rattle.registry_error.specs.declared.RegistryRejection.TheVariants.{Malformed, NotRegistryInception}
+use Rattle.registry_answer.specs.Answers.{accepts}
+use Rattle.std.proofs.Common.{Ok, Err}
+use Rattle.registry_error.specs.declared.RegistryRejection.{RegistryRejection}
+use Rattle.registry_error.specs.declared.RegistryRejection.TheVariants.{NotRegistryInception}
 use Rattle.registry_authentication.specs.Issuers.{issuer_kind}
-use Rattle.registry_inception.specs.InceptionFolds.{incept_event, incept_answer, incepted, incept_message, incept_decoded, incept_of, incepted_at, inception_at}
+use Rattle.registry_inception.specs.InceptionFolds.{vcp_answer, incept_event, incept_answer, incepted, incept_message, incept_decoded, incept_of, incepted_at, inception_at}
 use Rattle.registry_inception.specs.declared.Inception.{Inception}
-use Rattle.registry_answer.proofs.AnswerLaws.{or-second, or-passes, or-refuses}
-use Rattle.registry_inception.proofs.WellLaws.{Lettered, good-incepted}
+use Rattle.registry_answer.proofs.AnswerLaws.{or-second}
+use Rattle.registry_inception.proofs.WellLaws.{Lettered, good-incepted, well-by-view}
 
 pub good-event : (m : Message) → good_message m ≡ true → good_event m.event ≡ true
 unfolding good_message
@@ -43,24 +47,12 @@ good-event m g =
     and_left (good_event m.event) ((leb (length m.source) 1 && all good_source m.source) && (good_anchors m.anchor && ((leb (length m.signatures) 64 && all good_signature m.signatures) && good_evidence m.evidence))) g
 
 -- the kinds that a match on a vcp leaves over
-pub other-kind : (s : List ℕ) (k : Kind) (e : TelEvent) (m : Message) → (k ≡ Vcp → ⊥) → Rejected NotRegistryInception ≡ incept_event (event_as s k e) m
+pub other-kind : (s : List ℕ) (k : Kind) (e : TelEvent) (m : Message) → (k ≡ Vcp → ⊥) → Err NotRegistryInception ≡ incept_event (event_as s k e) m
 other-kind s Vcp e m h = absurd (h refl)
 other-kind s _ e m h = refl
 
--- t is the code's test whether the kind of evidence x is an issuer's
-module _ (fit : Bool) (m : Message) where
-  pub unfit : fit ≡ false → Rejected Malformed ≡ or_else (accept_if fit Malformed) (incept_answer m)
-  unfolding accept_if
-  unfit f = rw f
-
-  module _ (f : fit ≡ true) (x : Answer) (e : x ≡ issuer_kind m.evidence) (t : Bool) (k : t ≡ accepts x) where
-    pub evidence-decides : t ≡ false → x ≡ or_else (accept_if fit Malformed) (incept_answer m)
-    unfolding accept_if incept_answer
-    evidence-decides h = rw f (sym (or-refuses x (issuer_kind m.evidence) (incept_event m.event m) t e k h))
-
-    pub event-decides : t ≡ true → incept_event m.event m ≡ or_else (accept_if fit Malformed) (incept_answer m)
-    unfolding accept_if incept_answer
-    event-decides h = rw f (sym (or-passes x (issuer_kind m.evidence) (incept_event m.event m) t e k h))
+pub vcp-kind : (s : List ℕ) (k : Kind) (e : TelEvent) (m : Message) → k ≡ Vcp → vcp_answer (said_at s e.said) (read_matter s e.issuer) e.toad.0 (view_configs e.configs) (members_in s e.backers) m ≡ incept_event (event_as s k e) m
+vcp-kind s k e m h = rw h
 
 incept-kind-by : (s : List ℕ) (k : Kind) (e : TelEvent) (m : Message) → accepts (incept_event (event_as s k e) m) ≡ true → k ≡ Vcp
 incept-kind-by s Vcp e m h = refl
@@ -90,51 +82,24 @@ incept-lettered m g h =
     let l = incept-lettered-by m.event m (good-event m g) (or-second (issuer_kind m.evidence) (incept_event m.event m) h) in
     rw h l
 
-incept-decoded : (s : List ℕ) (d : DecodedAttempt) → view_decoded s d ≡ decode_of s → d.ok ≡ true → incept_of s ≡ incept_message (view_attempt s d.attempt)
-unfolding incept_of
-incept-decoded s d e ok = rw (← e, ok)
+-- the outcome of bytes that are an attempt's
+module _ (s : List ℕ) (a : Attempt) (v : decoded (view_attempt s a) ≡ decode_of s) where
+  abbrev placed : Inception
+  placed =
+      record { said = a.event.said; issuer = a.event.issuer; toad = a.event.toad; configs = a.event.configs; backers = a.event.backers }
 
-incept-malformed : (s : List ℕ) (d : DecodedAttempt) → view_decoded s d ≡ decode_of s → d.ok ≡ false → incept_of s ≡ record { answer = Rejected Malformed; state = no_registry }
-unfolding incept_of
-incept-malformed s d e ok = rw (← e, ok)
-
--- what the places of a decoded attempt stand for
-module _ (s : List ℕ) (a : Attempt) where
-  abbrev placed : Answer → Inception
-  placed x =
-      record { answer = x; said = a.event.said; issuer = a.event.issuer; toad = a.event.toad; configs = a.event.configs; backers = a.event.backers }
-
-  accepted-at : (x : Answer) → a.event.kind ≡ Vcp → incepted_at s (placed x) ≡ incepted (view_event s a.event)
+  placed-at : a.event.kind ≡ Vcp → incepted_at s placed ≡ incepted (view_event s a.event)
   unfolding incepted_at
-  accepted-at x k = rw k
+  placed-at k = rw k
 
-  placed_by : (x : Answer) (t : Bool) → x ≡ incept_answer (view_attempt s a) → accepts x ≡ t → inception_at s (placed x) ≡ incept_message (view_attempt s a)
-  unfolding inception_at incept_message
-  placed_by x true e h = rw (← e, h, accepted-at x (incept-kind s a (sym (ap accepts e) ∙ h)))
-  placed_by x false e h = rw (← e, h)
+  pub incept-accepted : Ok tt ≡ incept_answer (view_attempt s a) → inception_at s (Ok placed) ≡ incept_of s
+  unfolding incept_of incept_message
+  incept-accepted e =
+      rw (← v, ← e, placed-at (incept-kind s a (rw (← e) refl)))
 
-  incept-placed : (x : Answer) → x ≡ incept_answer (view_attempt s a) → inception_at s (placed x) ≡ incept_message (view_attempt s a)
-  incept-placed x e = placed_by x (accepts x) e refl
-
--- and of bytes, decoded or not
-module _ (s : List ℕ) (d : DecodedAttempt) (v : view_decoded s d ≡ decode_of s) (x : Answer) where
-  by-fit : (fit : Bool) → d.ok ≡ fit → x ≡ or_else (accept_if fit Malformed) (incept_answer (view_attempt s d.attempt)) → inception_at s (placed s d.attempt x) ≡ incept_of s
-  unfolding accept_if inception_at
-  by-fit true ok e = incept-placed s d.attempt x e ∙ sym (incept-decoded s d v ok)
-  by-fit false ok e = rw e (sym (incept-malformed s d v ok))
-
-  pub incept-bytes : x ≡ or_else (accept_if d.ok Malformed) (incept_answer (view_attempt s d.attempt)) → inception_at s (placed s d.attempt x) ≡ incept_of s
-  incept-bytes e = by-fit d.ok refl e
-
--- an inception with the state that its places stand for, and without one
-module _ (s : List ℕ) (r : Inception) (g : Registry) where
-  pub outcome-accepted : accepts r.answer ≡ true → g ≡ incepted_at s r → record { answer = r.answer; state = g } ≡ inception_at s r
-  unfolding inception_at
-  outcome-accepted h e = rw (h, e)
-
-  pub outcome-refused : accepts r.answer ≡ false → g ≡ no_registry → record { answer = r.answer; state = g } ≡ inception_at s r
-  unfolding inception_at
-  outcome-refused h e = rw (h, e)
+  pub incept-refused : (r : RegistryRejection) → Err r ≡ incept_answer (view_attempt s a) → inception_at s (Err r) ≡ incept_of s
+  unfolding incept_of incept_message
+  incept-refused r e = rw (← v, ← e)
 
 within_by : (s : List ℕ) (d : Decoded) → Bytes s → decode_of s ≡ d → accepts (incept_decoded d).answer ≡ true → Lettered (incept_decoded d).state
 within_by s malformed b e h = absurd (false≢true h)
@@ -143,3 +108,13 @@ within_by s (decoded m) b e h = incept-lettered m ((decodes s m b).0 e).1 h
 pub incept-within : (s : List ℕ) → Bytes s → accepts (incept_of s).answer ≡ true → Lettered (incept_of s).state
 unfolding incept_of
 incept-within s b h = within_by s (decode_of s) b refl h
+
+pub within-outcome : (s : List ℕ) → Bytes s → (x : RegistryState) → record { answer = Ok tt; state = view_registry x } ≡ incept_of s → x.configs.count ≤ 8 → x.backers.count ≤ 16 → well_registry x ≡ true
+within-outcome s b x e c k =
+    let h : accepts (incept_of s).answer ≡ true = rw (← e) refl in
+    well-by-view x c k (rw (← e) at (incept-within s b h))
+
+-- a list that stays in the bytes has as many as are counted
+pub listed-size : (s : List ℕ) (l : Listed) → length (members_in s l) ≡ min l.count 16
+unfolding members_in
+listed-size s l = length-times read_prefix s l.start (min l.count 16)

@@ -1,3 +1,2 @@
 pub mod InceptionLaws
-pub mod VcpLaws
 pub mod WellLaws

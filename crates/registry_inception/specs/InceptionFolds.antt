@@ -12,13 +12,14 @@ use Rattle.events_toad.specs.Toads.{exact_ok}
 use Rattle.registry_authentication.specs.States.{Registry, view_registry, no_registry}
 use Rattle.registry_authentication.specs.Attempts.{Message, Decoded, decode_of}
 use Rattle.registry_authentication.specs.Attempts.Decoded.{malformed, decoded}
+use Rattle.registry_authentication.specs.declared.RegistryState.{RegistryState}
+use Rattle.registry_error.specs.declared.RegistryRejection.{RegistryRejection}
 use Rattle.registry_error.specs.declared.RegistryRejection.TheVariants.{Malformed, NotRegistryInception, NoBackersWithBackers, InconsistentIssuer, BackerThreshold}
-use Rattle.registry_error.specs.declared.Answer.{Answer}
-use Rattle.registry_error.specs.declared.Answer.TheVariants.{Rejected}
+use Rattle.registry_error.specs.Errors.{Answer}
+use Rattle.std.specs.Prelude.{Result, Ok, Err}
 use Rattle.registry_answer.specs.Answers.{accepts, accept_if, backer_set, or_else, first_of}
 use Rattle.registry_authentication.specs.Issuers.{issuer_kind, names_issuer, anchored}
 use Rattle.registry_backing.specs.Backings.{enough_receipts}
-use Rattle.registry_inception.specs.declared.RegistryOutcome.{RegistryOutcome}
 use Rattle.registry_inception.specs.declared.Inception.{Inception}
 
 -- an answer, and the state behind it
@@ -51,11 +52,11 @@ vcp_answer said issuer toad configs backers m =
 -- 6: another kind
 abbrev pub incept_event : Event → Message → Answer
 incept_event (vcp said issuer toad configs backers) m = vcp_answer said issuer toad configs backers m
-incept_event (vrt said registry prior sn toad cuts additions) m = Rejected NotRegistryInception
-incept_event (iss said credential registry) m = Rejected NotRegistryInception
-incept_event (rev said credential registry prior) m = Rejected NotRegistryInception
-incept_event (bis said credential registry seal) m = Rejected NotRegistryInception
-incept_event (brv said credential prior seal) m = Rejected NotRegistryInception
+incept_event (vrt said registry prior sn toad cuts additions) m = Err NotRegistryInception
+incept_event (iss said credential registry) m = Err NotRegistryInception
+incept_event (rev said credential registry prior) m = Err NotRegistryInception
+incept_event (bis said credential registry seal) m = Err NotRegistryInception
+incept_event (brv said credential prior seal) m = Err NotRegistryInception
 
 -- 18 or 19 (kind) first
 unfoldable pub incept_answer : Message → Answer
@@ -76,15 +77,16 @@ incept_message m = record { answer = incept_answer m; state = cond (accepts (inc
 
 -- 1 before everything
 abbrev pub incept_decoded : Decoded → Outcome
-incept_decoded malformed = record { answer = Rejected Malformed; state = no_registry }
+incept_decoded malformed = record { answer = Err Malformed; state = no_registry }
 incept_decoded (decoded m) = incept_message m
 
 unfoldable pub incept_of : List ℕ → Outcome
 incept_of s = incept_decoded (decode_of s)
 
--- what the code's struct stands for
-abbrev pub view_outcome : RegistryOutcome → Outcome
-view_outcome r = record { answer = r.answer; state = view_registry r.state }
+-- what a fold of values answers, from the state that was handed in: after a refusal the state is that one
+abbrev pub view_outcome : Registry → Result RegistryState RegistryRejection → Outcome
+view_outcome g (Ok h) = record { answer = Ok tt; state = view_registry h }
+view_outcome g (Err r) = record { answer = Err r; state = g }
 
 -- the state that the places of an inception stand for, over the bytes that it was read from
 unfoldable pub incepted_at : List ℕ → Inception → Registry
@@ -92,6 +94,7 @@ incepted_at s r =
     record
     { id = said_at s r.said; issuer = read_matter s r.issuer; sn = sn_zero; latest = said_at s r.said; toad = r.toad.0; configs = view_configs r.configs; backers = members_in s r.backers }
 
--- its outcome: the places mean something where it is accepted
-unfoldable pub inception_at : List ℕ → Inception → Outcome
-inception_at s r = record { answer = r.answer; state = cond (accepts r.answer) (incepted_at s r) no_registry }
+-- its outcome
+abbrev pub inception_at : List ℕ → Result Inception RegistryRejection → Outcome
+inception_at s (Ok i) = record { answer = Ok tt; state = incepted_at s i }
+inception_at s (Err r) = record { answer = Err r; state = no_registry }

@@ -18,8 +18,8 @@ use Rattle.registry_management.specs.States.{Registry}
 use Rattle.registry_signatures.specs.declared.Signature.{Signature}
 use Rattle.registry_backer.specs.Attempts.{Message, Evidence}
 use Rattle.registry_backer.specs.Attempts.Evidence.{missing, issuer, backer, backer_at}
-use Rattle.registry_error.specs.declared.Answer.{Answer}
-use Rattle.registry_error.specs.declared.Answer.TheVariants.{Accepted, Rejected}
+use Rattle.registry_error.specs.Errors.{Answer}
+use Rattle.std.proofs.Common.{Ok, Err}
 use Rattle.registry_error.specs.declared.RegistryRejection.TheVariants.{InconsistentRegistry, SimpleEventOnBackerRegistry, BackedEventOnBackerlessRegistry}
 use Rattle.registry_answer.specs.Answers.{accept_if, or_else, first_of}
 use Rattle.registry_answer.proofs.AnswerLaws.{first-last}
@@ -30,16 +30,16 @@ use Rattle.registry_backer.proofs.AuthorityLaws.{in-two-parts}
 use Rattle.registry_issue.specs.IssueFolds.{iss_answer, bis_answer, incept_event}
 use Rattle.registry_issue.specs.IssueParts.{bis_resolved, event_resolved}
 
-cut : (d o z : Answer) → or_else (or_else d o) z ≡ or_else (or_else d Accepted) (or_else o z)
-cut Accepted o z = refl
-cut (Rejected r) o z = refl
+cut : (d o z : Answer) → or_else (or_else d o) z ≡ or_else (or_else d (Ok tt)) (or_else o z)
+cut (Ok u) o z = refl
+cut (Err r) o z = refl
 
 -- y, d with o behind it, stands behind l and before k
 pub in_parts : (l : List Answer) (y d o : Answer) (k : List Answer) → y ≡ or_else d o → first_of (l ++ (y ∷ k)) ≡ or_else (first_of (l ++ (d ∷ []))) (first_of (o ∷ k))
 unfolding first_of
 in_parts [] y d o k e = rw e (cut d o (first_of k))
-in_parts (Accepted ∷ l) y d o k e = in_parts l y d o k e
-in_parts (Rejected r ∷ l) y d o k e = refl
+in_parts ((Ok u) ∷ l) y d o k e = in_parts l y d o k e
+in_parts (Err r ∷ l) y d o k e = refl
 
 module _ (toad : ℕ) (backers : List BasicPrefix) (l : List Signature) where
   kind-own : (e : Evidence) (rest : List Answer) → first_of (issuer_kind e ∷ rest) ≡ or_else (first_of (issuer_kind e ∷ rest)) (own_where (asks_own e) toad backers l)

@@ -5,7 +5,6 @@ use Rattle.cesr.specs.declared.Said.{Said}
 use Rattle.events_tel.specs.TelEvents.{Event, sn_zero}
 use Rattle.events_tel.specs.TelEvents.Event.{vcp, vrt, iss, rev, bis, brv}
 use Rattle.events_seal.specs.declared.Seal.{Seal}
-use Rattle.registry_signatures.specs.SignatureSections.{signatures_in}
 use Rattle.registry_management.specs.States.{Registry, view_registry, well_registry}
 use Rattle.registry_state_credential.specs.CredentialStates.{no_credential}
 use Rattle.registry_management.specs.declared.RegistryState.{RegistryState}
@@ -13,13 +12,13 @@ use Rattle.registry_state_credential.specs.declared.CredentialState.{CredentialS
 use Rattle.registry_backer.specs.Attempts.{Message, Decoded, decode_of}
 use Rattle.registry_backer.specs.Attempts.Decoded.{malformed, decoded}
 use Rattle.registry_error.specs.declared.RegistryRejection.TheVariants.{Malformed, NotCredentialInception, InconsistentRegistry, SimpleEventOnBackerRegistry, BackedEventOnBackerlessRegistry}
-use Rattle.registry_error.specs.declared.Answer.{Answer}
-use Rattle.registry_error.specs.declared.Answer.TheVariants.{Rejected}
-use Rattle.registry_answer.specs.Answers.{accepts, accept_if, or_else, first_of}
+use Rattle.registry_error.specs.declared.RegistryRejection.{RegistryRejection}
+use Rattle.registry_error.specs.Errors.{Answer}
+use Rattle.std.specs.Prelude.{Result, Ok, Err}
+use Rattle.registry_answer.specs.Answers.{accepts, accept_if, first_of}
 use Rattle.registry_authentication.specs.Issuers.{anchored, authenticate_issuer}
-use Rattle.registry_backing.specs.Backings.{own_where}
+use Rattle.registry_backing.specs.Backings.{own_among}
 use Rattle.registry_backer.specs.Backers.{is_backerless, authenticate_backer}
-use Rattle.registry_issue.specs.declared.CredentialOutcome.{CredentialOutcome}
 use Rattle.registry_issue.specs.declared.Issue.{Issue}
 
 -- an answer, and the state behind it
@@ -52,12 +51,12 @@ bis_answer g said credential registry seal m =
 
 -- 8: another kind than an iss and a bis
 abbrev pub each_inception : (Said → Said → Said → Answer) → (Said → Said → Said → Seal → Answer) → Event → Answer
-each_inception on_iss on_bis (vcp said issuer toad configs backers) = Rejected NotCredentialInception
-each_inception on_iss on_bis (vrt said registry prior sn toad cuts additions) = Rejected NotCredentialInception
+each_inception on_iss on_bis (vcp said issuer toad configs backers) = Err NotCredentialInception
+each_inception on_iss on_bis (vrt said registry prior sn toad cuts additions) = Err NotCredentialInception
 each_inception on_iss on_bis (iss said credential registry) = on_iss said credential registry
-each_inception on_iss on_bis (rev said credential registry prior) = Rejected NotCredentialInception
+each_inception on_iss on_bis (rev said credential registry prior) = Err NotCredentialInception
 each_inception on_iss on_bis (bis said credential registry seal) = on_bis said credential registry seal
-each_inception on_iss on_bis (brv said credential prior seal) = Rejected NotCredentialInception
+each_inception on_iss on_bis (brv said credential prior seal) = Err NotCredentialInception
 
 abbrev pub incept_event : Registry → Event → Message → Answer
 incept_event g e m =
@@ -77,25 +76,27 @@ incept_message g m =
     record { answer = incept_event g m.event m; state = cond (accepts (incept_event g m.event m)) (issued g.id m.event) no_credential }
 
 abbrev pub incept_decoded : Registry → Decoded → Outcome
-incept_decoded g malformed = record { answer = Rejected Malformed; state = no_credential }
+incept_decoded g malformed = record { answer = Err Malformed; state = no_credential }
 incept_decoded g (decoded m) = incept_message g m
 
 -- 1 before everything, of the state that is handed in too
 abbrev pub incept_if : Bool → Registry → List ℕ → Outcome
-incept_if well g s = cond well (incept_decoded g (decode_of s)) (record { answer = Rejected Malformed; state = no_credential })
+incept_if well g s = cond well (incept_decoded g (decode_of s)) (record { answer = Err Malformed; state = no_credential })
 
 unfoldable pub incept_of : RegistryState → List ℕ → Outcome
 incept_of g s = incept_if (well_registry g) (view_registry g) s
 
--- what the code's struct stands for
-abbrev pub view_outcome : CredentialOutcome → Outcome
-view_outcome r = record { answer = r.answer; state = r.state }
+-- what a call answers; after a refusal the state is the one that was handed in, w, which is blank where none was
+abbrev pub view_outcome : CredentialState → Result CredentialState RegistryRejection → Outcome
+view_outcome w (Ok x) = record { answer = Ok tt; state = x }
+view_outcome w (Err r) = record { answer = Err r; state = w }
 
--- an answer that leaves the registry's own backers to be asked about, with what they come to behind it
-abbrev pub issue_answer : Registry → List ℕ → Issue → Answer
-issue_answer g s r = or_else r.answer (own_where r.own g.toad g.backers (signatures_in s r.signatures))
+-- the state that the places of an issue stand for
+abbrev pub issued_at : List ℕ → Issue → CredentialState
+issued_at s r = record { registry = said_at s r.registry; credential = said_at s r.credential; sn = sn_zero; head = said_at s r.said }
 
--- and what places in an attempt's bytes stand for
-abbrev pub issue_at : Registry → List ℕ → Issue → Outcome
-issue_at g s r =
-    record { answer = issue_answer g s r; state = cond (accepts (issue_answer g s r)) (record { registry = said_at s r.registry; credential = said_at s r.credential; sn = sn_zero; head = said_at s r.said }) no_credential }
+-- what an issue comes to, with the registry's own backers behind it
+abbrev pub issue_at : Registry → List ℕ → Result Issue RegistryRejection → Outcome
+issue_at g s (Ok r) =
+    record { answer = own_among g.toad g.backers s r.own; state = cond (accepts (own_among g.toad g.backers s r.own)) (issued_at s r) no_credential }
+issue_at g s (Err r) = record { answer = Err r; state = no_credential }

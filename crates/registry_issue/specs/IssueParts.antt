@@ -1,13 +1,10 @@
 -- The answer to a credential's issue but for the registry's own backers, whose list the code leaves to its callers.
-use Rattle.std.specs.Prelude.{Bool}
 use Rattle.cesr.specs.declared.Said.{Said}
 use Rattle.events_tel.specs.TelEvents.{Event}
 use Rattle.events_seal.specs.declared.Seal.{Seal}
 use Rattle.registry_management.specs.States.{Registry}
 use Rattle.registry_backer.specs.Attempts.{Message}
-use Rattle.registry_error.specs.declared.RegistryRejection.TheVariants.{Malformed}
-use Rattle.registry_error.specs.declared.Answer.{Answer}
-use Rattle.registry_answer.specs.Answers.{accept_if, or_else}
+use Rattle.registry_error.specs.Errors.{Answer}
 use Rattle.registry_backer.specs.Backers.{resolved_backer}
 use Rattle.registry_issue.specs.IssueFolds.{iss_answer, bis_checks, each_inception}
 
@@ -19,7 +16,3 @@ bis_resolved g said credential registry seal m = bis_checks g said credential re
 abbrev pub event_resolved : Registry → Event → Message → Answer
 event_resolved g e m =
     each_inception (λ said credential registry. iss_answer g said credential registry m) (λ said credential registry seal. bis_resolved g said credential registry seal m) e
-
--- by whether the attempt and the registry's state are well formed
-unfoldable pub incept_resolved : Bool → Registry → Message → Answer
-incept_resolved fit g m = or_else (accept_if fit Malformed) (event_resolved g m.event m)

@@ -8,7 +8,7 @@ use mathlib.Core.Bool.{true, false≢true}
 use Rattle.std.specs.Prelude.{Ok, Err}
 use Rattle.events.specs.Members.{Membership, sound, or_else}
 use Rattle.registry_answer.specs.Answers.{accepts, backer_set, first_of}
-use Rattle.registry_error.specs.declared.Answer.{Answer}
+use Rattle.registry_error.specs.Errors.{Answer}
 use Rattle.registry.specs.Starred.{All}
 use Rattle.registry_answer.proofs.AnswerLaws.{or-first, or-second}
 

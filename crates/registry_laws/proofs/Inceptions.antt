@@ -19,7 +19,7 @@ use Rattle.registry_state.specs.States.{no_registry}
 use Rattle.registry_credential_state.specs.Attempts.{Message, Decoded, decode_of}
 use Rattle.registry_credential_state.specs.Attempts.Decoded.{malformed, decoded}
 use Rattle.registry_answer.specs.Answers.{accepts}
-use Rattle.registry_error.specs.declared.Answer.TheVariants.{Rejected}
+use Rattle.std.proofs.Common.{Err}
 use Rattle.registry_error.specs.declared.RegistryRejection.TheVariants.{Malformed, NoBackersWithBackers, BackerThreshold}
 use Rattle.registry_credential_state.specs.Issuers.{issuer_kind}
 use Rattle.registry.specs.InceptionFolds.{Outcome, threshold_fits, vcp_answer, incept_event, incept_answer, incepted, incept_message, incept_decoded, incept_of}
@@ -61,7 +61,7 @@ unfolding incept_message
 inception-refused m h = rw h
 
 -- what holds of malformed bytes, and of every message, holds of all bytes
-pub incept-bytes : (P : Outcome → Type 0) (s : List ℕ) → P (record { answer = Rejected Malformed; state = no_registry }) → ((m : Message) → P (incept_message m)) → P (incept_of s)
+pub incept-bytes : (P : Outcome → Type 0) (s : List ℕ) → P (record { answer = Err Malformed; state = no_registry }) → ((m : Message) → P (incept_message m)) → P (incept_of s)
 unfolding incept_of
 incept-bytes P s bad good = go (decode_of s)
   where

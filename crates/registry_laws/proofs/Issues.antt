@@ -16,7 +16,7 @@ use Rattle.registry_state.specs.declared.RegistryState.{RegistryState}
 use Rattle.registry_credential_state.specs.Attempts.{Message, Decoded, decode_of}
 use Rattle.registry_credential_state.specs.Attempts.Decoded.{malformed, decoded}
 use Rattle.registry_answer.specs.Answers.{accepts, accept_if}
-use Rattle.registry_error.specs.declared.Answer.TheVariants.{Rejected}
+use Rattle.std.proofs.Common.{Err}
 use Rattle.registry_error.specs.declared.RegistryRejection.TheVariants.{Malformed, InconsistentRegistry}
 use Rattle.registry_credential_state.specs.IssueFolds.{Outcome, iss_answer, bis_answer, incept_event, issued, incept_message, incept_decoded, incept_of}
 use Rattle.registry_answer.proofs.AnswerLaws.{passed}
@@ -47,11 +47,11 @@ unfolding incept_message
 issue-refused g m h = rw h
 
 -- what holds of the refusal 1, and of every message, holds of all bytes
-pub incept-bytes : (P : Decoded → Outcome → Type 0) (g : RegistryState) (s : List ℕ) → ((d : Decoded) → P d (record { answer = Rejected Malformed; state = no_credential })) → ((m : Message) → P (decoded m) (incept_message (view_registry g) m)) → P (decode_of s) (incept_of g s)
+pub incept-bytes : (P : Decoded → Outcome → Type 0) (g : RegistryState) (s : List ℕ) → ((d : Decoded) → P d (record { answer = Err Malformed; state = no_credential })) → ((m : Message) → P (decoded m) (incept_message (view_registry g) m)) → P (decode_of s) (incept_of g s)
 unfolding incept_of
 incept-bytes P g s bad good = go (well_registry g) (decode_of s)
   where
-    go : (t : Bool) (d : Decoded) → P d (cond t (incept_decoded (view_registry g) d) (record { answer = Rejected Malformed; state = no_credential }))
+    go : (t : Bool) (d : Decoded) → P d (cond t (incept_decoded (view_registry g) d) (record { answer = Err Malformed; state = no_credential }))
     go true malformed = bad malformed
     go true (decoded m) = good m
     go false d = bad d

@@ -13,7 +13,7 @@ use Rattle.cesr_sn.specs.declared.Sn.{Sn}
 use Rattle.cesr_sn.proofs.Words.{value-words, value-fits}
 use Rattle.codec.specs.Layout.{good_sn}
 use Rattle.registry_answer.specs.Answers.{accepts, accept_if}
-use Rattle.registry_error.specs.declared.Answer.TheVariants.{Rejected}
+use Rattle.std.proofs.Common.{Err}
 use Rattle.registry_error.specs.declared.RegistryRejection.TheVariants.{SequenceNumberOverflow, OutOfOrder}
 use Rattle.registry.specs.Sequence.{sn_behind, next_sn}
 use Rattle.registry_answer.proofs.AnswerLaws.{passed}
@@ -32,7 +32,7 @@ pub behind : (held sn : Sn) → good_sn held ≡ true → accepts (next_sn held 
 unfolding next_sn
 behind held sn g h = go (eqb (value held) (2 ^ 128 - 1)) refl h
   where
-    go : (t : Bool) → eqb (value held) (2 ^ 128 - 1) ≡ t → accepts (cond t (Rejected SequenceNumberOverflow) (accept_if (eqb (value sn) (value (sn_behind held))) (OutOfOrder (sn_behind held) sn))) ≡ true → value sn ≡ value held + 1
+    go : (t : Bool) → eqb (value held) (2 ^ 128 - 1) ≡ t → accepts (cond t (Err SequenceNumberOverflow) (accept_if (eqb (value sn) (value (sn_behind held))) (OutOfOrder (sn_behind held) sn))) ≡ true → value sn ≡ value held + 1
     go true e h = absurd (false≢true h)
     go false e h =
         let b = room-behind (value held) (2 ^ 128) (good-below held g) (eqb-false (value held) (2 ^ 128 - 1) e) in

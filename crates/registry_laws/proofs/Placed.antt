@@ -16,17 +16,17 @@ use Rattle.events.specs.declared.Rule.{Rule}
 use Rattle.events.proofs.MemberLaws.{broken-rule, broken-below, broken-breaks}
 use Rattle.registry_answer.specs.Answers.{accept_if, backer_set, or_else, first_of}
 use Rattle.registry_error.specs.Errors.{number_of, answer_number}
-use Rattle.registry_error.specs.declared.Answer.{Answer}
-use Rattle.registry_error.specs.declared.Answer.TheVariants.{Accepted, Rejected}
+use Rattle.registry_error.specs.Errors.{Answer}
+use Rattle.std.proofs.Common.{Ok, Err}
 use Rattle.registry_error.specs.declared.RegistryRejection.{RegistryRejection}
 use Rattle.registry_error.specs.declared.RegistryRejection.TheVariants.{BackerSet}
 use Rattle.registry.specs.Starred.{All}
 
 -- where an answer is refusal 24, the element at the position breaks the rule
 abbrev pub Placed : Lists → Answer → Type 0
-Placed s x = (rule : Rule) (i : ℕ) → x ≡ Rejected (BackerSet rule i) → Offends (broken rule i) s
+Placed s x = (rule : Rule) (i : ℕ) → x ≡ Err (BackerSet rule i) → Offends (broken rule i) s
 
-set-broken : (x : Membership) (rule : Rule) (i : ℕ) → backer_set x ≡ Rejected (BackerSet rule i) → x ≡ broken rule i
+set-broken : (x : Membership) (rule : Rule) (i : ℕ) → backer_set x ≡ Err (BackerSet rule i) → x ≡ broken rule i
 set-broken (Ok u) rule i e = absurd (omega (arith, ap answer_number e))
 set-broken (Err b) rule i e =
     let r : b.rule ≡ rule = cc in
@@ -39,12 +39,12 @@ module _ (s : Lists) where
 
   pub if-placed : (t : Bool) (r : RegistryRejection) → eqb (number_of r) 24 ≡ false → Placed s (accept_if t r)
   unfolding accept_if
-  if-placed true r n = other-placed Accepted refl
-  if-placed false r n = other-placed (Rejected r) n
+  if-placed true r n = other-placed (Ok tt) refl
+  if-placed false r n = other-placed (Err r) n
 
   pub or-placed : (x y : Answer) → Placed s x → Placed s y → Placed s (or_else x y)
-  or-placed Accepted y p q = q
-  or-placed (Rejected r) y p q = p
+  or-placed (Ok u) y p q = q
+  or-placed (Err r) y p q = p
 
   pub cond-placed : {A : Type 0} (answer : A → Answer) (t : Bool) (x y : A) → Placed s (answer x) → Placed s (answer y) → Placed s (answer (cond t x y))
   cond-placed answer true x y p q = p
@@ -52,7 +52,7 @@ module _ (s : Lists) where
 
   pub all_placed : (l : List Answer) → All (Placed s) l → Placed s (first_of l)
   unfolding first_of
-  all_placed [] p = other-placed Accepted refl
+  all_placed [] p = other-placed (Ok tt) refl
   all_placed (x ∷ l) p = or-placed x (first_of l) p.0 (all_placed l p.1)
 
   pub check-placed : (r : Rule) → Placed s (backer_set (check r (subject r s) (against r s)))

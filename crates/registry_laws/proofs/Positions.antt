@@ -29,8 +29,8 @@ use Rattle.registry_credential_state.specs.Attempts.Decoded.{decoded}
 use Rattle.registry_credential_state.specs.Attempts.Evidence.{missing, issuer, backer, backer_at}
 use Rattle.registry_source.specs.declared.Source.{Source}
 use Rattle.registry_answer.specs.Answers.{accept_if, backer_set}
-use Rattle.registry_error.specs.declared.Answer.{Answer}
-use Rattle.registry_error.specs.declared.Answer.TheVariants.{Rejected}
+use Rattle.registry_error.specs.Errors.{Answer}
+use Rattle.std.proofs.Common.{Err}
 use Rattle.registry_error.specs.declared.RegistryRejection.TheVariants.{Malformed, SequenceNumberOverflow, OutOfOrder, BackerSet}
 use Rattle.registry_credential_state.specs.Issuers.{issuer_kind, anchored, authenticate_issuer}
 use Rattle.registry_credential_state.specs.Backings.{enough_receipts, backed_by}
@@ -69,7 +69,7 @@ module _ (s : Lists) where
   next-placed : (held sn : Sn) → Placed s (next_sn held sn)
   unfolding next_sn
   next-placed held sn =
-      cond-placed s (λ (x : Answer). x) (eqb (value held) (2 ^ 128 - 1)) (Rejected SequenceNumberOverflow) (accept_if (eqb (value sn) (value (sn_behind held))) (OutOfOrder (sn_behind held) sn)) (other-placed s _ refl) (if-placed s _ _ refl)
+      cond-placed s (λ (x : Answer). x) (eqb (value held) (2 ^ 128 - 1)) (Err SequenceNumberOverflow) (accept_if (eqb (value sn) (value (sn_behind held))) (OutOfOrder (sn_behind held) sn)) (other-placed s _ refl) (if-placed s _ _ refl)
 
   receipts-placed : (toad n : ℕ) (l : List Signature) → Placed s (enough_receipts toad n l)
   unfolding enough_receipts
@@ -139,7 +139,7 @@ module _ (m : Message) where
   incepts-placed (brv said credential prior seal) = other-placed _ _ refl
 
   -- Where an inception is refused with 24, the element at the position breaks the rule, in the list of the vcp.
-  pub inception-offends : (rule : Rule) (i : ℕ) → (inceptions.incept_message m).answer ≡ Rejected (BackerSet rule i) → Offends (broken rule i) (lists_of [] m.event)
+  pub inception-offends : (rule : Rule) (i : ℕ) → (inceptions.incept_message m).answer ≡ Err (BackerSet rule i) → Offends (broken rule i) (lists_of [] m.event)
   unfolding inceptions.incept_message inceptions.incept_answer
   inception-offends =
       let s = lists_of [] m.event in
@@ -162,7 +162,7 @@ module _ (g : Registry) (m : Message) where
   rotates-placed (brv said credential prior seal) = other-placed _ _ refl
 
   -- Where a rotation is refused with 24, the element at the position breaks the rule, in the lists of the registry and of the vrt.
-  pub rotation-offends : (rule : Rule) (i : ℕ) → (registries.ingest_message g m).answer ≡ Rejected (BackerSet rule i) → Offends (broken rule i) (lists_of g.backers m.event)
+  pub rotation-offends : (rule : Rule) (i : ℕ) → (registries.ingest_message g m).answer ≡ Err (BackerSet rule i) → Offends (broken rule i) (lists_of g.backers m.event)
   unfolding registries.ingest_message
   rotation-offends = rotates-placed m.event
 
@@ -184,7 +184,7 @@ module _ (g : Registry) (m : Message) where
   issues-placed (brv said credential prior seal) = other-placed _ _ refl
 
   -- Where an issue is refused with 24, the element at the position breaks the rule, in the list of the authority.
-  pub issue-offends : (rule : Rule) (i : ℕ) → (issues.incept_message g m).answer ≡ Rejected (BackerSet rule i) → Offends (broken rule i) (lists_of (authority g m.evidence).backers m.event)
+  pub issue-offends : (rule : Rule) (i : ℕ) → (issues.incept_message g m).answer ≡ Err (BackerSet rule i) → Offends (broken rule i) (lists_of (authority g m.evidence).backers m.event)
   unfolding issues.incept_message
   issue-offends = issues-placed m.event
 
@@ -204,7 +204,7 @@ module _ (g : Registry) (m : Message) where
       (if-placed s _ _ refl, (if-placed s _ _ refl, (anchored-placed s g.issuer credential _ said m.source m.anchor, (backer-placed g seal m.evidence m.signatures, (transition-placed s w credential prior, tt)))))
 
   -- Where a revocation is refused with 24, the same holds.
-  pub revocation-offends : (w : CredentialState) (rule : Rule) (i : ℕ) → (credentials.ingest_message g w m).answer ≡ Rejected (BackerSet rule i) → Offends (broken rule i) (lists_of (authority g m.evidence).backers m.event)
+  pub revocation-offends : (w : CredentialState) (rule : Rule) (i : ℕ) → (credentials.ingest_message g w m).answer ≡ Err (BackerSet rule i) → Offends (broken rule i) (lists_of (authority g m.evidence).backers m.event)
   unfolding credentials.ingest_message credentials.ingest_answer
   revocation-offends w =
       let s = lists_of now m.event in
@@ -212,27 +212,27 @@ module _ (g : Registry) (m : Message) where
 
 -- The same of bytes that hold a message.
 module _ (s : List ℕ) (m : Message) (d : decode_of s ≡ decoded m) where
-  pub inception-offends-bytes : (rule : Rule) (i : ℕ) → (inceptions.incept_of s).answer ≡ Rejected (BackerSet rule i) → Offends (broken rule i) (lists_of [] m.event)
+  pub inception-offends-bytes : (rule : Rule) (i : ℕ) → (inceptions.incept_of s).answer ≡ Err (BackerSet rule i) → Offends (broken rule i) (lists_of [] m.event)
   unfolding inceptions.incept_of
   inception-offends-bytes rule i h = inception-offends m rule i (rw d at h)
 
-  pub rotation-offends-bytes : (g : RegistryState) (rule : Rule) (i : ℕ) → (registries.ingest_of g s).answer ≡ Rejected (BackerSet rule i) → Offends (broken rule i) (lists_of (view_registry g).backers m.event)
+  pub rotation-offends-bytes : (g : RegistryState) (rule : Rule) (i : ℕ) → (registries.ingest_of g s).answer ≡ Err (BackerSet rule i) → Offends (broken rule i) (lists_of (view_registry g).backers m.event)
   unfolding registries.ingest_of
   rotation-offends-bytes g =
       let h = view_registry g in
       rw d
-      (cond-placed _ (λ (r : inceptions.Outcome). r.answer) (well_registry g) (registries.ingest_message h m) (record { answer = Rejected Malformed; state = h }) (rotation-offends h m) (other-placed _ _ refl))
+      (cond-placed _ (λ (r : inceptions.Outcome). r.answer) (well_registry g) (registries.ingest_message h m) (record { answer = Err Malformed; state = h }) (rotation-offends h m) (other-placed _ _ refl))
 
-  pub issue-offends-bytes : (g : RegistryState) (rule : Rule) (i : ℕ) → (issues.incept_of g s).answer ≡ Rejected (BackerSet rule i) → Offends (broken rule i) (lists_of (authority (view_registry g) m.evidence).backers m.event)
+  pub issue-offends-bytes : (g : RegistryState) (rule : Rule) (i : ℕ) → (issues.incept_of g s).answer ≡ Err (BackerSet rule i) → Offends (broken rule i) (lists_of (authority (view_registry g) m.evidence).backers m.event)
   unfolding issues.incept_of
   issue-offends-bytes g =
       let h = view_registry g in
       rw d
-      (cond-placed _ (λ (r : issues.Outcome). r.answer) (well_registry g) (issues.incept_message h m) (record { answer = Rejected Malformed; state = no_credential }) (issue-offends h m) (other-placed _ _ refl))
+      (cond-placed _ (λ (r : issues.Outcome). r.answer) (well_registry g) (issues.incept_message h m) (record { answer = Err Malformed; state = no_credential }) (issue-offends h m) (other-placed _ _ refl))
 
-  pub revocation-offends-bytes : (g : RegistryState) (w : CredentialState) (rule : Rule) (i : ℕ) → (credentials.ingest_of g w s).answer ≡ Rejected (BackerSet rule i) → Offends (broken rule i) (lists_of (authority (view_registry g) m.evidence).backers m.event)
+  pub revocation-offends-bytes : (g : RegistryState) (w : CredentialState) (rule : Rule) (i : ℕ) → (credentials.ingest_of g w s).answer ≡ Err (BackerSet rule i) → Offends (broken rule i) (lists_of (authority (view_registry g) m.evidence).backers m.event)
   unfolding credentials.ingest_of
   revocation-offends-bytes g w =
       let h = view_registry g in
       rw d
-      (cond-placed _ (λ (r : issues.Outcome). r.answer) (well_registry g && well_credential w) (credentials.ingest_message h w m) (record { answer = Rejected Malformed; state = w }) (revocation-offends h m w) (other-placed _ _ refl))
+      (cond-placed _ (λ (r : issues.Outcome). r.answer) (well_registry g && well_credential w) (credentials.ingest_message h w m) (record { answer = Err Malformed; state = w }) (revocation-offends h m w) (other-placed _ _ refl))

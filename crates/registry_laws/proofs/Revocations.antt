@@ -33,7 +33,7 @@ use Rattle.registry_credential_state.specs.Attempts.{Message, Decoded, decode_of
 use Rattle.registry_credential_state.specs.Attempts.Decoded.{malformed, decoded}
 use Rattle.registry_credential_state.proofs.CodesAttempt.{decodes}
 use Rattle.registry_answer.specs.Answers.{accepts, accept_if}
-use Rattle.registry_error.specs.declared.Answer.TheVariants.{Rejected}
+use Rattle.std.proofs.Common.{Err}
 use Rattle.registry_error.specs.declared.RegistryRejection.TheVariants.{Malformed, InconsistentRegistry, InconsistentCredential}
 use Rattle.registry_credential_state.specs.Backers.{names_registry}
 use Rattle.registry_credential_state.specs.IssueFolds.{Outcome}
@@ -133,11 +133,11 @@ unfolding ingest_message
 revocation-refused g w m h = rw h
 
 -- what holds of the refusal 1, and of every message in bytes with a state that is let through, holds of all bytes
-pub ingest-bytes : (P : Decoded → Outcome → Type 0) (g : RegistryState) (w : CredentialState) (s : List ℕ) → ((d : Decoded) → P d (record { answer = Rejected Malformed; state = w })) → ((m : Message) → well_registry g ≡ true → decode_of s ≡ decoded m → P (decoded m) (ingest_message (view_registry g) w m)) → P (decode_of s) (ingest_of g w s)
+pub ingest-bytes : (P : Decoded → Outcome → Type 0) (g : RegistryState) (w : CredentialState) (s : List ℕ) → ((d : Decoded) → P d (record { answer = Err Malformed; state = w })) → ((m : Message) → well_registry g ≡ true → decode_of s ≡ decoded m → P (decoded m) (ingest_message (view_registry g) w m)) → P (decode_of s) (ingest_of g w s)
 unfolding ingest_of
 ingest-bytes P g w s bad good = go (well_registry g) refl (well_credential w) (decode_of s) refl
   where
-    go : (t : Bool) → well_registry g ≡ t → (u : Bool) (d : Decoded) → decode_of s ≡ d → P d (cond (t && u) (ingest_decoded (view_registry g) w d) (record { answer = Rejected Malformed; state = w }))
+    go : (t : Bool) → well_registry g ≡ t → (u : Bool) (d : Decoded) → decode_of s ≡ d → P d (cond (t && u) (ingest_decoded (view_registry g) w d) (record { answer = Err Malformed; state = w }))
     go true e true malformed f = bad malformed
     go true e true (decoded m) f = good m e f
     go true e false d f = bad d

@@ -25,7 +25,7 @@ use Rattle.registry_state.specs.declared.RegistryState.{RegistryState}
 use Rattle.registry_credential_state.specs.Attempts.{Message, Decoded, decode_of}
 use Rattle.registry_credential_state.specs.Attempts.Decoded.{malformed, decoded}
 use Rattle.registry_answer.specs.Answers.{accepts, backer_set}
-use Rattle.registry_error.specs.declared.Answer.TheVariants.{Rejected}
+use Rattle.std.proofs.Common.{Err}
 use Rattle.registry_error.specs.declared.RegistryRejection.TheVariants.{Malformed, RotationOnBackerlessRegistry, BackerThreshold}
 use Rattle.registry_members.specs.Updated.{updated_members}
 use Rattle.registry.specs.InceptionFolds.{Outcome, threshold_fits}
@@ -95,11 +95,11 @@ unfolding ingest_message
 rotation-refused g m h = rw h
 
 -- what holds of the refusal 1, and of every message, holds of all bytes
-pub ingest-bytes : (P : Outcome → Type 0) (g : RegistryState) (s : List ℕ) → P (record { answer = Rejected Malformed; state = view_registry g }) → ((m : Message) → P (ingest_message (view_registry g) m)) → P (ingest_of g s)
+pub ingest-bytes : (P : Outcome → Type 0) (g : RegistryState) (s : List ℕ) → P (record { answer = Err Malformed; state = view_registry g }) → ((m : Message) → P (ingest_message (view_registry g) m)) → P (ingest_of g s)
 unfolding ingest_of
 ingest-bytes P g s bad good = go (well_registry g) (decode_of s)
   where
-    go : (t : Bool) (d : Decoded) → P (cond t (ingest_decoded (view_registry g) d) (record { answer = Rejected Malformed; state = view_registry g }))
+    go : (t : Bool) (d : Decoded) → P (cond t (ingest_decoded (view_registry g) d) (record { answer = Err Malformed; state = view_registry g }))
     go true malformed = bad
     go true (decoded m) = good m
     go false d = bad

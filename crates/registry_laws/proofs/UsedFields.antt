@@ -22,8 +22,8 @@ use Rattle.registry_signatures.specs.declared.Signature.{Signature}
 use Rattle.registry_credential_state.specs.Attempts.Decoded.{malformed, decoded}
 use Rattle.registry_credential_state.specs.Attempts.Evidence.{missing, issuer, backer, backer_at}
 use Rattle.registry_answer.specs.Answers.{accept_if, or_else, first_of}
-use Rattle.registry_error.specs.declared.Answer.{Answer}
-use Rattle.registry_error.specs.declared.Answer.TheVariants.{Accepted, Rejected}
+use Rattle.registry_error.specs.Errors.{Answer}
+use Rattle.std.proofs.Common.{Ok, Err}
 use Rattle.registry_error.specs.declared.RegistryRejection.TheVariants.{Malformed, InconsistentRegistry}
 use Rattle.registry_credential_state.specs.Backings.{backed_by}
 use Rattle.registry_credential_state.specs.Backers.{same_registry, resolved_by, authority, authenticate_backer}
@@ -32,12 +32,12 @@ use Rattle.registry_credential_state.specs.CredentialFolds.{rev_answer, brv_answ
 use Rattle.registry_laws.specs.States.{OneRegistry}
 
 or_assoc : (x y z : Answer) → or_else (or_else x y) z ≡ or_else x (or_else y z)
-or_assoc Accepted y z = refl
-or_assoc (Rejected r) y z = refl
+or_assoc (Ok u) y z = refl
+or_assoc (Err r) y z = refl
 
 module _ (g h : Registry) (one : OneRegistry g h) where
   -- the answer by the evidence, and what follows it
-  by-evidence : (s : Sn) (d : Said) (e : Evidence) (l : List Signature) → e ≢ backer → or_else (resolved_by g s d e) (or_else (backed_by (authority g e).toad (authority g e).backers l) Accepted) ≡ or_else (resolved_by h s d e) (or_else (backed_by (authority h e).toad (authority h e).backers l) Accepted)
+  by-evidence : (s : Sn) (d : Said) (e : Evidence) (l : List Signature) → e ≢ backer → or_else (resolved_by g s d e) (or_else (backed_by (authority g e).toad (authority g e).backers l) (Ok tt)) ≡ or_else (resolved_by h s d e) (or_else (backed_by (authority h e).toad (authority h e).backers l) (Ok tt))
   unfolding same_registry
   by-evidence s d missing l n = refl
   by-evidence s d (issuer prefix anchor) l n = refl
@@ -52,9 +52,9 @@ module _ (g h : Registry) (one : OneRegistry g h) where
   by-seal (EventSeal i s d) e l n =
       let x = accept_if (eq_matter (matter_of i) g.id.0) InconsistentRegistry in
       let y = accept_if (eq_matter (matter_of i) h.id.0) InconsistentRegistry in
-      or_assoc x (resolved_by g s d e) (or_else (backed_by (authority g e).toad (authority g e).backers l) Accepted)
+      or_assoc x (resolved_by g s d e) (or_else (backed_by (authority g e).toad (authority g e).backers l) (Ok tt))
       ∙ ap (or_else x) (by-evidence s d e l n)
-      ∙ rw one.id (sym (or_assoc y (resolved_by h s d e) (or_else (backed_by (authority h e).toad (authority h e).backers l) Accepted)))
+      ∙ rw one.id (sym (or_assoc y (resolved_by h s d e) (or_else (backed_by (authority h e).toad (authority h e).backers l) (Ok tt))))
   by-seal Last e l n = refl
   by-seal Back e l n = refl
   by-seal Kind e l n = refl
@@ -93,7 +93,7 @@ module _ (g h : RegistryState) (well : well_registry g ≡ well_registry h) (one
   pub issue-reads-bytes : incept_of g s ≡ incept_of h s
   unfolding incept_of
   issue-reads-bytes =
-      rw well (ap (λ (r : Outcome). cond (well_registry h) r (record { answer = Rejected Malformed; state = no_credential })) (go (decode_of s) refl))
+      rw well (ap (λ (r : Outcome). cond (well_registry h) r (record { answer = Err Malformed; state = no_credential })) (go (decode_of s) refl))
     where
       go : (d : Decoded) → decode_of s ≡ d → incept_decoded (view_registry g) d ≡ incept_decoded (view_registry h) d
       go malformed e = refl
@@ -102,7 +102,7 @@ module _ (g h : RegistryState) (well : well_registry g ≡ well_registry h) (one
   pub revocation-reads-bytes : (w : CredentialState) → ingest_of g w s ≡ ingest_of h w s
   unfolding ingest_of
   revocation-reads-bytes w =
-      rw well (ap (λ (r : Outcome). cond (well_registry h && well_credential w) r (record { answer = Rejected Malformed; state = w })) (go (decode_of s) refl))
+      rw well (ap (λ (r : Outcome). cond (well_registry h && well_credential w) r (record { answer = Err Malformed; state = w })) (go (decode_of s) refl))
     where
       go : (d : Decoded) → decode_of s ≡ d → ingest_decoded (view_registry g) w d ≡ ingest_decoded (view_registry h) w d
       go malformed e = refl

@@ -11,8 +11,8 @@ use Rattle.registry_state_credential.specs.declared.CredentialState.{CredentialS
 use Rattle.registry_wire.specs.Attempts.{Decoded, decode_of}
 use Rattle.registry_wire.specs.Attempts.Decoded.{malformed, decoded}
 use Rattle.registry_answer.specs.Answers.{accepts}
-use Rattle.registry_error.specs.declared.Answer.{Answer}
-use Rattle.registry_error.specs.declared.Answer.TheVariants.{Rejected}
+use Rattle.registry_error.specs.Errors.{Answer}
+use Rattle.std.proofs.Common.{Err}
 use Rattle.registry_error.specs.declared.RegistryRejection.TheVariants.{Malformed}
 use Rattle.registry_issue.specs.IssueFolds.{Outcome}
 use Rattle.registry_credential_state.specs.CredentialFolds.{ingest_answer, revoked, ingest_message, ingest_decoded, ingest_of}
@@ -37,4 +37,4 @@ decoded-kept g w (decoded m) = next-kept (accepts (ingest_answer g w m)) w (revo
 pub kept : (g : RegistryState) (w : CredentialState) (s : List ℕ) → stored w (ingest_of g w s).state ≡ (ingest_of g w s).state
 unfolding ingest_of
 kept g w s =
-    outcome-kept (well_registry g && well_credential w) w (ingest_decoded (view_registry g) w (decode_of s)) (Rejected Malformed) (decoded-kept (view_registry g) w (decode_of s))
+    outcome-kept (well_registry g && well_credential w) w (ingest_decoded (view_registry g) w (decode_of s)) (Err Malformed) (decoded-kept (view_registry g) w (decode_of s))

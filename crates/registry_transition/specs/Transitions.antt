@@ -5,7 +5,7 @@ use Rattle.cesr.specs.declared.Said.{Said}
 use Rattle.events_tel.specs.TelEvents.{sn_one}
 use Rattle.registry_state_credential.specs.declared.CredentialState.{CredentialState}
 use Rattle.registry_error.specs.declared.RegistryRejection.TheVariants.{PriorDigestMismatch, InconsistentCredential}
-use Rattle.registry_error.specs.declared.Answer.{Answer}
+use Rattle.registry_error.specs.Errors.{Answer}
 use Rattle.registry_answer.specs.Answers.{accept_if, first_of}
 use Rattle.registry_verification.specs.Sequence.{next_sn}
 

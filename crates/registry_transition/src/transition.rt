@@ -4,9 +4,8 @@ ghost use Rattle.cesr.specs.Primitives.{said_at};
 ghost use Rattle.registry_state_credential.specs.CredentialStates.{credential_at};
 ghost use Rattle.registry_transition.specs.Transitions.{transition};
 
-use cesr::{Matter, Said};
+use cesr::Said;
 use cesr_sn::Sn;
-use registry_answer::answer::{accept_if, accepts, or_else};
 use registry_error::{Answer, RegistryRejection};
 use registry_state_credential::{CredentialAt, CredentialState};
 use registry_verification::sequence::next_sn;
@@ -15,14 +14,14 @@ use registry_verification::sequence::next_sn;
 pub fn transition(w: CredentialState, credential: Said, prior: Said) -> Answer
     ensures { result ≡ transition w credential prior }
 {
-    let one = Sn { hi: 0, lo: 1 };
-    let named = accept_if(
-        credential.same(w.credential),
-        RegistryRejection::InconsistentCredential,
-    );
-    let place = next_sn(w.sn, one);
-    let behind = accept_if(prior.same(w.head), RegistryRejection::PriorDigestMismatch);
-    or_else(named, or_else(place, or_else(behind, Answer::Accepted)))
+    if credential != w.credential {
+        return Err(RegistryRejection::InconsistentCredential);
+    }
+    next_sn(w.sn, Sn { hi: 0, lo: 1 })?;
+    if prior != w.head {
+        return Err(RegistryRejection::PriorDigestMismatch);
+    }
+    Ok(())
 }
 
 // The same of a state, a credential and a prior that stay in their bytes.
@@ -35,16 +34,11 @@ pub fn transition_in(
 ) -> Answer
     ensures { result ≡ transition (credential_at held.now w) (said_at s.now credential) (said_at s.now prior) }
 {
-    let one = Sn { hi: 0, lo: 1 };
-    if !Matter::read(held, w.credential).same_at(s, credential) {
-        return Answer::Rejected(RegistryRejection::InconsistentCredential);
-    }
-    let place = next_sn(w.sn, one);
-    if !accepts(place) {
-        return place;
-    }
-    if !Matter::read(held, w.head).same_at(s, prior) {
-        return Answer::Rejected(RegistryRejection::PriorDigestMismatch);
-    }
-    Answer::Accepted
+    let state = CredentialState {
+        registry: Said::read(held, w.registry),
+        credential: Said::read(held, w.credential),
+        sn: w.sn,
+        head: Said::read(held, w.head),
+    };
+    transition(state, Said::read(s, credential), Said::read(s, prior))
 }

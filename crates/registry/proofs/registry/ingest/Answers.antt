@@ -1,67 +1,44 @@
+use Rattle.std.proofs.Common.{Ok, Err}
+use mathlib.Core.Path.{sym, ◌∙◌}
 use native.Mathlib.Omega.{arith}
-use mathlib.Core.Path.{◌≡◌, sym, ◌∙◌}
-use mathlib.Core.Bool.{false, ◌&&◌, false≢true}
-use borrow.Author.Tests.{not-true, not-false}
-use Rattle.laws.proofs.Tests.{and_left, and_right}
+use borrow.Author.Tests.{leb-true}
 use Rattle.registry_state.specs.States.{view_registry}
-use Rattle.registry_backer.specs.Attempts.{view_attempt}
-use Rattle.registry_authentication.proofs.AnchorUse.{decoded-good, anchored-parts}
-use Rattle.registry_answer.specs.Answers.{accepts}
-use Rattle.registry_inception.specs.declared.RegistryOutcome.{RegistryOutcome}
-use Rattle.registry.specs.RegistryFolds.{Ingested}
-use Rattle.registry.proofs.RegistryLaws.{Judged, ingest-judged, ingest-malformed, refused-ingested, other-kind}
+use Rattle.registry_answer.proofs.AnswerLaws.{handed-on}
+use Rattle.registry.specs.RegistryFolds.{ingest_of, rotated_at}
+use Rattle.registry.proofs.RotationLaws.{by-value, rotation-fits, rotation-within}
+use Rattle.registry_inception.proofs.WellLaws.{well-by-view}
+use Rattle.registry.proofs.WellLaws.{well-view}
 use Rattle.registry.proofs.registry.ingest.Goals as goal
 
-pub returns-then-not-fit : goal.returns-then-not-fit
-returns-then-not-fit c =
-    let z = c.args in
-    let left = rw c.well_formed-2.ensures at (not-true (c.well_formed-2.result && c.decode-d.result.ok) c.if-not-fit.true-raw) in
-    let no : accepts c.refused.result.answer ≡ false = rw c.refused.ensures.0 in record { outcome = rw (c.refused.ensures.0, c.refused.ensures.1) (sym (ingest-malformed z.g z.s.now c.decode-d.result c.decode-d.ensures.view left)); within = (λ h. absurd (false≢true (sym no ∙ h))); kept = (λ h. c.refused.ensures.1) }
+pub returns-then-not-well_formed-clause-outcome : goal.returns-then-not-well_formed-clause-outcome
+unfolding ingest_of
+returns-then-not-well_formed-clause-outcome c = rw (← c.if-not-well_formed.ensures)
 
-pub returns-in-Vcp : goal.returns-in-Vcp
-returns-in-Vcp c =
-    let judged : ((o : RegistryOutcome) → let z = c.args in Ingested z.s.now z.g c.decode-d.result.attempt o → Judged z.g z.s.now o) =
-    λ o i. let z = c.args in
-    let s = z.s.now in
-    let r = c.decode-d.result in
-    let known = c.shared_slice_known-1.given in
-    let fit = not-false _ c.if-not-fit.false-raw in
-    let ok = and_right c.well_formed-2.result r.ok fit in
-    ingest-judged z.g s r c.decode-d.ensures.view (sym c.well_formed-2.ensures ∙ and_left c.well_formed-2.result r.ok fit) ok (decoded-good s r (λ i. omega (arith, known i)) c.decode-d.ensures.view ok) o i in
-    let z = c.args in
-    let both = judged _ (refused-ingested z.s.now z.g c.decode-d.result.attempt c.refused-in-Vcp.result _ c.refused-in-Vcp.ensures.0 c.refused-in-Vcp.ensures.1 (rw c.in-Vcp.is)) in record { outcome = both.0; within = both.1.0; kept = both.1.1 }
+pub returns-in_err-r-clause-outcome : goal.returns-in_err-r-clause-outcome
+unfolding ingest_of
+returns-in_err-r-clause-outcome c =
+    let told = by-value _ _ c.args.g c.args.s.now (Err c.in_err-r.field-0.0) c.as_slice-current.ensures.value c.management_of.ensures c.in_err-r.ensures in
+    rw (handed-on _ _ c.from_residual.ensures.1, ← c.if-not-well_formed.ensures) told
 
-pub rotate-requires : goal.rotate-requires
-rotate-requires c =
-    let s = c.args.s.now in
-    let r = c.decode-d.result in
-    let known = c.shared_slice_known-1.given in
-    let ok = and_right c.well_formed-2.result r.ok (not-false _ c.if-not-fit.false-raw) in
-    let p = c.decode-d.ensures.parts ok in
-    (anchored-parts s r.attempt (decoded-good s r (λ i. omega (arith, known i)) c.decode-d.ensures.view ok) p.0 p.1, c.in-Vrt.is)
+pub unwrap-backers-requires : goal.unwrap-backers-requires
+unwrap-backers-requires c =
+    let told = by-value _ _ c.args.g c.args.s.now (Ok c.in_ok-r.r) c.as_slice-current.ensures.value c.management_of.ensures c.in_ok-r.ensures in
+    let fits = rotation-fits (view_registry c.args.g) c.args.s.now c.in_ok-r.r told in
+    c.updated_members.ensures.ok ∙ rw c.as_slice-current.ensures.value fits
 
-pub returns-in-Vrt : goal.returns-in-Vrt
-returns-in-Vrt c =
-    let judged : ((o : RegistryOutcome) → let z = c.args in Ingested z.s.now z.g c.decode-d.result.attempt o → Judged z.g z.s.now o) =
-    λ o i. let z = c.args in
-    let s = z.s.now in
-    let r = c.decode-d.result in
-    let known = c.shared_slice_known-1.given in
-    let fit = not-false _ c.if-not-fit.false-raw in
-    let ok = and_right c.well_formed-2.result r.ok fit in
-    ingest-judged z.g s r c.decode-d.ensures.view (sym c.well_formed-2.ensures ∙ and_left c.well_formed-2.result r.ok fit) ok (decoded-good s r (λ i. omega (arith, known i)) c.decode-d.ensures.view ok) o i in
-    let both = judged _ c.rotate.ensures in record { outcome = both.0; within = both.1.0; kept = both.1.1 }
+pub returns-clause-outcome : goal.returns-clause-outcome
+unfolding ingest_of rotated_at
+returns-clause-outcome c =
+    let told = by-value _ _ c.args.g c.args.s.now (Ok c.in_ok-r.r) c.as_slice-current.ensures.value c.management_of.ensures c.in_ok-r.ensures in
+    let list = rw (c.unwrap-backers.ensures, c.as_slice-current.ensures.value) at c.updated_members.ensures.list in
+    rw (← c.if-not-well_formed.ensures, list, c.read.ensures) told
 
-pub returns : goal.returns
-returns c =
-    let judged : ((o : RegistryOutcome) → let z = c.args in Ingested z.s.now z.g c.decode-d.result.attempt o → Judged z.g z.s.now o) =
-    λ o i. let z = c.args in
-    let s = z.s.now in
-    let r = c.decode-d.result in
-    let known = c.shared_slice_known-1.given in
-    let fit = not-false _ c.if-not-fit.false-raw in
-    let ok = and_right c.well_formed-2.result r.ok fit in
-    ingest-judged z.g s r c.decode-d.ensures.view (sym c.well_formed-2.ensures ∙ and_left c.well_formed-2.result r.ok fit) ok (decoded-good s r (λ i. omega (arith, known i)) c.decode-d.ensures.view ok) o i in
-    let z = c.args in
-    let a = c.decode-d.result.attempt in
-    let both = judged _ (refused-ingested z.s.now z.g a c.refused-2.result _ c.refused-2.ensures.0 c.refused-2.ensures.1 (other-kind (view_registry z.g) z.s.now a.event.kind a.event (view_attempt z.s.now a) c.in_default.not-Vcp c.in_default.not-Vrt)) in record { outcome = both.0; within = both.1.0; kept = both.1.1 }
+pub returns-clause-within : goal.returns-clause-within
+unfolding rotated_at
+returns-clause-within c =
+    let q = c.args in
+    let told = by-value _ _ c.args.g c.args.s.now (Ok c.in_ok-r.r) c.as_slice-current.ensures.value c.management_of.ensures c.in_ok-r.ensures in
+    let list = rw (c.unwrap-backers.ensures, c.as_slice-current.ensures.value) at c.updated_members.ensures.list in
+    let held = well-view q.g (sym c.if-not-well_formed.ensures) in
+    let letters = rotation-within (view_registry q.g) q.s.now c.in_ok-r.r held.1 (λ i. omega (arith, c.type_inv.s i)) told in
+    well-by-view _ (leb-true q.g.configs.count 8 held.0) (rw c.unwrap-backers.ensures at c.updated_members.ensures.count) (rw (list, c.read.ensures) letters)

@@ -5,12 +5,12 @@ use Rattle.registry_authentication.proofs.issuer.message_anchored.Goals as goal
 
 pub returns : goal.returns
 returns c =
-    let z = c.args in
+    let s = c.args.s.now in
     rw (
       c.verify_kel_anchor.ensures,
+      c.stated.ensures,
       c.read-said.ensures,
-      c.read-origin.ensures,
-      c.bytes-message.ensures,
-      c.bytes-evidence.ensures,
-      none-chosen z.s.now _ (part_of z.s.now z.anchor) refl,
+      c.bytes-2.ensures,
+      c.bytes.ensures,
+      none-chosen s _ (part_of s c.args.a.now.anchor) refl,
     )

@@ -1,14 +1,17 @@
-use Rattle.registry_wire.specs.States.{read_registry}
-use Rattle.registry_signatures.specs.SignatureSections.{signatures_in}
-use Rattle.registry_management.specs.Managements.{view_management}
-use Rattle.registry_backer.proofs.AuthorityLaws.{by-own}
+use Rattle.cesr.proofs.Matters.{differ, agree}
+use Rattle.registry_answer.specs.Answers.{accept_if}
+use Rattle.registry_backer.proofs.AuthorityLaws.{event-seal, other-seal}
 use Rattle.registry_backer.proofs.backer.authenticate_backer.Goals as goal
 
-pub returns-then-evidence-eq3 : goal.returns-then-evidence-eq3
-returns-then-evidence-eq3 c p d l = c.backed_at.ensures p d l
+pub returns-then-ne : goal.returns-then-ne
+unfolding accept_if
+returns-then-ne c l =
+    rw (c.in-Event.is, event-seal, ← c.matter.ensures, differ _ _ c.if-ne.ensures)
 
-pub returns : goal.returns
-returns c p d l =
-    let q = c.args in
-    let s = q.s.now in
-    by-own s q.evidence p d (view_management q.g l) (read_registry s q.management).value q.seal (signatures_in s q.signatures) _ c.if-evidence-eq3.false (c.resolved.ensures s p d l l)
+pub returns-else-ne : goal.returns-else-ne
+unfolding accept_if
+returns-else-ne c l =
+    rw (c.in-Event.is, event-seal, ← c.matter.ensures, agree _ _ c.if-ne.ensures) (c.resolved_at.ensures l)
+
+pub returns-in_default : goal.returns-in_default
+returns-in_default c l = other-seal _ _ _ _ c.in_default.not-Event

@@ -1,59 +1,25 @@
 use mathlib.Core.Path.{sym, ◌∙◌}
 use native.Mathlib.Omega.{arith}
-use borrow.Author.Tests.{not-true, not-false}
-use Rattle.cesr.specs.Primitives.{read_matter, said_at}
-use Rattle.events_tel.specs.TelEvents.{sn_one}
-use Rattle.registry_backer.specs.Attempts.{sources_in, view_attempt}
-use Rattle.registry_management.specs.Managements.{view_management}
+use Rattle.registry_answer.proofs.AnswerLaws.{handed-on}
 use Rattle.registry_authentication.proofs.AnchorUse.{message-in}
 use Rattle.registry_credential_state.proofs.CredentialLaws.{brv-routed, brv-flavor, brv-anchor, brv-backed}
 use Rattle.registry_credential_state.proofs.credential_state.brv_answer.Goals as goal
 
 pub returns-then-not-names_registry : goal.returns-then-not-names_registry
-returns-then-not-names_registry c l =
-    let q = c.args in
-    let s = q.s.now in
-    let g = view_management q.g l in
-    let said = said_at s q.a.event.said in
-    let credential = said_at s q.a.event.credential in
-    let m = view_attempt s q.a in
-    brv-routed g said credential m q.seal (sym c.names_registry.ensures ∙ not-true _ c.if-not-names_registry.true-raw)
+returns-then-not-names_registry c l = brv-routed _ _ _ _ _ (sym c.if-not-names_registry.ensures)
 
 pub returns-then-no_backers : goal.returns-then-no_backers
 returns-then-no_backers c l =
-    let q = c.args in
-    let s = q.s.now in
-    let g = view_management q.g l in
-    let said = said_at s q.a.event.said in
-    let credential = said_at s q.a.event.credential in
-    let m = view_attempt s q.a in
-    brv-flavor g said credential m q.seal (sym c.names_registry.ensures ∙ not-false _ c.if-not-names_registry.false-raw) (sym c.no_backers.ensures ∙ c.if-no_backers.true)
+    brv-flavor _ _ _ _ _ (sym c.if-not-names_registry.ensures) (sym c.if-no_backers.ensures)
 
-pub returns-then-not-accepts : goal.returns-then-not-accepts
-unfolding sources_in
-returns-then-not-accepts c l =
-    let q = c.args in
-    let s = q.s.now in
-    let g = view_management q.g l in
-    let said = said_at s q.a.event.said in
-    let credential = said_at s q.a.event.credential in
-    let m = view_attempt s q.a in
-    let in_bytes = message-in s q.a q.g.issuer credential sn_one said (λ i. omega (arith, c.shared_slice_known-1.given i)) c.requires in
-    let routed = sym c.names_registry.ensures ∙ not-false _ c.if-not-names_registry.false-raw in
-    let flavor = sym c.no_backers.ensures ∙ c.if-no_backers.false in
-    brv-anchor g said credential m q.seal routed flavor c.message_anchored-anchor.result (rw (c.message_anchored-anchor.ensures, c.read-credential.ensures) in_bytes) (sym c.accepts.ensures ∙ not-true _ c.if-not-accepts.true-raw)
+pub returns-in_err-message_anchored : goal.returns-in_err-message_anchored
+returns-in_err-message_anchored c l =
+    handed-on _ _ c.from_residual.ensures.1
+    ∙ brv-anchor _ _ _ _ _ (sym c.if-not-names_registry.ensures) (sym c.if-no_backers.ensures) _
+    (sym (rw (c.in_err-message_anchored.ensures, c.read-credential.ensures) (message-in _ _ _ _ _ _ (λ i. omega (arith, c.type_inv.s i)) c.requires)))
 
 pub returns : goal.returns
-unfolding sources_in
 returns c l =
-    let q = c.args in
-    let s = q.s.now in
-    let g = view_management q.g l in
-    let said = said_at s q.a.event.said in
-    let credential = said_at s q.a.event.credential in
-    let m = view_attempt s q.a in
-    let in_bytes = message-in s q.a q.g.issuer credential sn_one said (λ i. omega (arith, c.shared_slice_known-1.given i)) c.requires in
-    let routed = sym c.names_registry.ensures ∙ not-false _ c.if-not-names_registry.false-raw in
-    let flavor = sym c.no_backers.ensures ∙ c.if-no_backers.false in
-    brv-backed g said credential m q.seal routed flavor c.message_anchored-anchor.result (rw (c.message_anchored-anchor.ensures, c.read-credential.ensures) in_bytes) (sym c.accepts.ensures ∙ not-false _ c.if-not-accepts.false-raw) _
-    (c.authenticate_backer.ensures (read_matter s q.a.issuer) q.a.carried l)
+    c.authenticate_backer.ensures l
+    ∙ brv-backed _ _ _ _ _ (sym c.if-not-names_registry.ensures) (sym c.if-no_backers.ensures)
+    (sym (rw (c.in_ok-message_anchored.ensures, c.read-credential.ensures) (message-in _ _ _ _ _ _ (λ i. omega (arith, c.type_inv.s i)) c.requires)))

@@ -1,21 +1,18 @@
-use native.Mathlib.Omega.{arith}
-use Rattle.laws.proofs.Tests.{and_right}
-use Rattle.registry_authentication.proofs.AnchorUse.{decoded-good, anchored-parts}
-use Rattle.registry_management.specs.Managements.{view_management}
-use Rattle.registry_credential_state.proofs.CredentialLaws.{ingest-bytes}
+use mathlib.Core.Path.{sym, ◌∙◌}
+use Rattle.registry_answer.proofs.AnswerLaws.{handed-on}
+use Rattle.registry_credential_state.proofs.CredentialLaws.{elsewhere, refused, accepted}
 use Rattle.registry_credential_state.proofs.credential_state.ingest_read.Goals as goal
 
-pub ingest_event-answer-requires : goal.ingest_event-answer-requires
-ingest_event-answer-requires c fit =
-    let z = c.args in
-    let s = z.s.now in
-    let r = c.decode-d.result in
-    let known = c.shared_slice_known-1.given in
-    let ok = and_right z.well r.ok fit in
-    let p = c.decode-d.ensures.parts ok in
-    anchored-parts s r.attempt (decoded-good s r (λ i. omega (arith, known i)) c.decode-d.ensures.view ok) p.0 p.1
+pub returns-then-not-held : goal.returns-then-not-held
+returns-then-not-held c l w h =
+    rw (← c.decode.ensures.view, c.in_ok-a.ensures.ok_part) (elsewhere _ w _ _ (sym h ∙ c.if-not-held.true))
+
+pub returns-in_err-event_answer : goal.returns-in_err-event_answer
+returns-in_err-event_answer c l w h =
+    rw (handed-on _ _ c.from_residual-in_err-event_answer.ensures.1, ← c.decode.ensures.view, c.in_ok-a.ensures.ok_part)
+    (refused _ w _ _ (sym h ∙ c.if-not-held.false) _ (c.in_err-event_answer.ensures l))
 
 pub returns : goal.returns
 returns c l w h =
-    let z = c.args in
-    ingest-bytes (view_management z.g l) w z.s.now z.held h z.well c.decode-d.result c.decode-d.ensures.view c.ingest_event-answer.result (c.ingest_event-answer.ensures l)
+    rw (← c.decode.ensures.view, c.in_ok-a.ensures.ok_part)
+    (accepted _ w _ _ (sym h ∙ c.if-not-held.false) (c.in_ok-event_answer.ensures l) _ (c.own_signatures.ensures _ l _))

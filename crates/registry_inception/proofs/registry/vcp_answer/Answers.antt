@@ -1,62 +1,51 @@
-use Rattle.cesr.specs.declared.Said.{Said}
-use Rattle.registry_authentication.specs.Attempts.{anchors_in, sources_in, part_of}
-use Rattle.registry_authentication.specs.Issuers.{anchored, anchored_in}
-use mathlib.Core.Path.{◌≡◌, ap, ◌∙◌}
+use mathlib.Core.Path.{◌≡◌, sym, ◌∙◌}
 use native.Mathlib.Omega.{arith}
-use borrow.Author.Tests.{not-true, not-false}
-use Rattle.cesr.specs.Primitives.{read_matter, said_at, eq_matter}
-use Rattle.cesr.specs.declared.Matter.{Matter}
-use Rattle.events_tel.specs.TelEvents.{sn_zero}
+use Rattle.registry_answer.specs.Answers.{accept_if, first_of}
+use Rattle.registry_answer.proofs.AnswerLaws.{handed-on, or-nothing}
 use Rattle.registry_authentication.proofs.AnchorUse.{message-in}
-use Rattle.registry_inception.proofs.VcpLaws.{unnamed, named, list-decides, anchor-decides, receipts-decide}
+use Rattle.laws.specs.Number.{Bytes}
+use Prim.Native.Nat.{min}
+use Rattle.events_tel.specs.TelEvents.{sn_zero}
+use Rattle.registry_inception.specs.InceptionFolds.{vcp_answer}
+use Rattle.registry_inception.proofs.InceptionLaws.{listed-size}
 use Rattle.registry_inception.proofs.registry.vcp_answer.Goals as goal
 
-pub returns-then-not-named : goal.returns-then-not-named
-returns-then-not-named c =
-    let same : (let z = c.args in c.same_at.result ≡ eq_matter (read_matter z.s.now z.a.issuer) (read_matter z.s.now z.a.event.issuer)) =
-    let z = c.args in
-    c.same_at.ensures ∙ ap (eq_matter (read_matter z.s.now z.a.issuer)) c.read-issuer.ensures in
-    let z = c.args in
-    unnamed z.s.now z.a c.same_at.result (same) (not-true _ c.if-not-named.true-raw)
+pub returns-then-not-names_issuer : goal.returns-then-not-names_issuer
+unfolding vcp_answer first_of accept_if
+returns-then-not-names_issuer c =
+    rw (← c.read-issuer.ensures, ← c.if-not-names_issuer.ensures)
 
-pub returns-then-not-accepts : goal.returns-then-not-accepts
-returns-then-not-accepts c =
-    let same : (let z = c.args in c.same_at.result ≡ eq_matter (read_matter z.s.now z.a.issuer) (read_matter z.s.now z.a.event.issuer)) =
-    let z = c.args in
-    c.same_at.ensures ∙ ap (eq_matter (read_matter z.s.now z.a.issuer)) c.read-issuer.ensures in
-    let z = c.args in
-    list-decides z.s.now z.a (named z.s.now z.a c.same_at.result (same) (not-false _ c.if-not-named.false-raw)) c.list_answer-list.result c.list_answer-list.ensures _ c.accepts.ensures (not-true _ c.if-not-accepts.true-raw)
+pub returns-then-no_backers-count : goal.returns-then-no_backers-count
+unfolding vcp_answer first_of accept_if
+returns-then-no_backers-count c =
+    rw (← c.read-issuer.ensures, ← c.if-not-names_issuer.ensures, listed-size, ← c.at_most_16-count.ensures, ← c.no_backers.ensures, c.if-no_backers-count.true)
 
-pub returns-then-not-accepts-2 : goal.returns-then-not-accepts-2
-unfolding sources_in
-returns-then-not-accepts-2 c =
-    let same : (let z = c.args in c.same_at.result ≡ eq_matter (read_matter z.s.now z.a.issuer) (read_matter z.s.now z.a.event.issuer)) =
-    let z = c.args in
-    c.same_at.ensures ∙ ap (eq_matter (read_matter z.s.now z.a.issuer)) c.read-issuer.ensures in
-    let sealed : (let z = c.args in c.message_anchored-anchor.result ≡ anchored (read_matter z.s.now z.a.event.issuer) (said_at z.s.now z.a.event.said) sn_zero (said_at z.s.now z.a.event.said) (sources_in z.s.now z.a) (anchors_in z.s.now z.a.anchor)) =
-    let z = c.args in
-    let s = z.s.now in
-    let said = said_at s z.a.event.said in
-    c.message_anchored-anchor.ensures
-    ∙ ap (λ (i : Matter). anchored_in i c.read-said.result sn_zero said (sources_in s z.a) (part_of s z.a.anchor)) c.read-issuer.ensures
-    ∙ ap (λ (d : Said). anchored_in (read_matter s z.a.event.issuer) d sn_zero said (sources_in s z.a) (part_of s z.a.anchor)) c.read-said.ensures
-    ∙ message-in s z.a (read_matter s z.a.event.issuer) said sn_zero said (λ i. omega (arith, c.shared_slice_known-1.given i)) c.requires in
-    let z = c.args in
-    anchor-decides z.s.now z.a (named z.s.now z.a c.same_at.result (same) (not-false _ c.if-not-named.false-raw)) c.list_answer-list.result c.list_answer-list.ensures _ c.accepts.ensures (not-false _ c.if-not-accepts.false-raw) c.message_anchored-anchor.result (sealed) _ c.accepts-2.ensures (not-true _ c.if-not-accepts-2.true-raw)
+pub returns-in_err-check_members : goal.returns-in_err-check_members
+unfolding vcp_answer first_of accept_if
+returns-in_err-check_members c =
+    handed-on _ _ c.from_residual.ensures.1
+    ∙ rw (← c.read-issuer.ensures, ← c.if-not-names_issuer.ensures, listed-size, ← c.at_most_16-count.ensures, ← c.no_backers.ensures, c.if-no_backers-count.false, ← c.in_err-check_members.ensures.answer)
+
+pub returns-in_err-threshold_fits : goal.returns-in_err-threshold_fits
+unfolding vcp_answer first_of accept_if
+returns-in_err-threshold_fits c =
+    handed-on _ _ c.from_residual-in_err-threshold_fits.ensures.1
+    ∙ rw (← c.read-issuer.ensures, ← c.if-not-names_issuer.ensures, listed-size, ← c.at_most_16-count.ensures, ← c.no_backers.ensures, c.if-no_backers-count.false, ← c.in_ok-check_members.ensures.answer, ← c.in_err-threshold_fits.ensures)
+
+pub returns-in_err-message_anchored : goal.returns-in_err-message_anchored
+unfolding vcp_answer first_of accept_if
+returns-in_err-message_anchored c =
+    let q = c.args in
+    let b : Bytes q.s.now = λ i. omega (arith, c.type_inv.s i) in
+    let sealed = rw (← c.read-said.ensures) at (c.in_err-message_anchored.ensures ∙ message-in q.s.now q.a.now c.read-issuer.result c.read-said.result sn_zero _ b c.requires) in
+    handed-on _ _ c.from_residual-in_err-message_anchored.ensures.1
+    ∙ rw (← c.read-issuer.ensures, ← c.read-said.ensures, ← c.if-not-names_issuer.ensures, listed-size, ← c.at_most_16-count.ensures, ← c.no_backers.ensures, c.if-no_backers-count.false, ← c.in_ok-check_members.ensures.answer, ← c.in_ok-threshold_fits.ensures, ← sealed)
 
 pub returns : goal.returns
-unfolding sources_in
+unfolding vcp_answer first_of accept_if
 returns c =
-    let same : (let z = c.args in c.same_at.result ≡ eq_matter (read_matter z.s.now z.a.issuer) (read_matter z.s.now z.a.event.issuer)) =
-    let z = c.args in
-    c.same_at.ensures ∙ ap (eq_matter (read_matter z.s.now z.a.issuer)) c.read-issuer.ensures in
-    let sealed : (let z = c.args in c.message_anchored-anchor.result ≡ anchored (read_matter z.s.now z.a.event.issuer) (said_at z.s.now z.a.event.said) sn_zero (said_at z.s.now z.a.event.said) (sources_in z.s.now z.a) (anchors_in z.s.now z.a.anchor)) =
-    let z = c.args in
-    let s = z.s.now in
-    let said = said_at s z.a.event.said in
-    c.message_anchored-anchor.ensures
-    ∙ ap (λ (i : Matter). anchored_in i c.read-said.result sn_zero said (sources_in s z.a) (part_of s z.a.anchor)) c.read-issuer.ensures
-    ∙ ap (λ (d : Said). anchored_in (read_matter s z.a.event.issuer) d sn_zero said (sources_in s z.a) (part_of s z.a.anchor)) c.read-said.ensures
-    ∙ message-in s z.a (read_matter s z.a.event.issuer) said sn_zero said (λ i. omega (arith, c.shared_slice_known-1.given i)) c.requires in
-    let z = c.args in
-    receipts-decide z.s.now z.a (named z.s.now z.a c.same_at.result (same) (not-false _ c.if-not-named.false-raw)) c.list_answer-list.result c.list_answer-list.ensures _ c.accepts.ensures (not-false _ c.if-not-accepts.false-raw) c.message_anchored-anchor.result (sealed) _ c.accepts-2.ensures (not-false _ c.if-not-accepts-2.false-raw) c.enough_receipts.result c.enough_receipts.ensures
+    let q = c.args in
+    let b : Bytes q.s.now = λ i. omega (arith, c.type_inv.s i) in
+    let sealed = rw (← c.read-said.ensures) at (c.in_ok-message_anchored.ensures ∙ message-in q.s.now q.a.now c.read-issuer.result c.read-said.result sn_zero _ b c.requires) in
+    let few : min c.at_most_16-count.result 16 ≡ c.at_most_16-count.result = omega arith in
+    rw (← c.read-issuer.ensures, ← c.read-said.ensures, ← c.if-not-names_issuer.ensures, listed-size, ← c.at_most_16-count.ensures, ← c.no_backers.ensures, c.if-no_backers-count.false, ← c.in_ok-check_members.ensures.answer, ← c.in_ok-threshold_fits.ensures, ← sealed, c.enough_receipts.ensures, few) (sym (or-nothing _))
