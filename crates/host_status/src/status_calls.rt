@@ -4,11 +4,11 @@ ghost use Rattle.registry_credential_error.specs.CredentialErrors.{error_number}
 ghost use Rattle.registry_credential.specs.Status.{status_of, status_number};
 ghost use Rattle.host_status.specs.StatusReports.{error_report, status_report};
 
-use host_report::report::{report_rejection, report_with, write_report};
+use host_report::report::{report_answer, report_rejection, write_report};
 use host_values::{Values, awaited};
-use registry_credential::{CredentialVerifier, StatusOutcome};
+use registry_credential::{CredentialVerifier, StatusError, StatusOutcome};
 use registry_credential_error::CredentialError;
-use registry_error::{Answer, RegistryRejection};
+use registry_error::RegistryRejection;
 
 fn report_error(e: CredentialError, report: &mut [u8; 36]) -> u8
     ensures { (result ≡ error_number e) × (report.new ≡ error_report e) }
@@ -21,9 +21,9 @@ fn report_status(outcome: StatusOutcome, report: &mut [u8; 36]) -> u8
     ensures { (result ≡ status_number outcome) × (report.new ≡ status_report outcome) }
 {
     match outcome {
-        StatusOutcome::Accepted => report_with(Answer::Accepted, Values::Nothing, report),
-        StatusOutcome::Malformed => report_rejection(RegistryRejection::Malformed, report),
-        StatusOutcome::Rejected(e) => report_error(e, report),
+        Ok(()) => report_answer(Ok(()), report),
+        Err(StatusError::Malformed) => report_rejection(RegistryRejection::Malformed, report),
+        Err(StatusError::Credential(e)) => report_error(e, report),
     }
 }
 

@@ -5,13 +5,15 @@ pub mod credential;
 
 use registry_credential_error::CredentialError;
 
-// What `status` answers: its input comes as bytes, so they may be malformed.
+// Why a credential is turned down: its input comes as bytes, so they may be malformed.
 #[derive(Clone, Copy)]
-pub enum StatusOutcome {
-    Accepted,
+pub enum StatusError {
     Malformed,
-    Rejected(CredentialError),
+    Credential(CredentialError),
 }
+
+// What `status` answers.
+pub type StatusOutcome = Result<(), StatusError>;
 
 // A pure verifier: no storage, no network and no clock.
 #[derive(Clone, Copy)]

@@ -9,17 +9,7 @@ impl CredentialError {
     pub fn number(self) -> u8
         ensures { result ≡ error_number self }
     {
-        match self {
-            CredentialError::MissingRegistry => 31,
-            CredentialError::MissingCredentialState => 32,
-            CredentialError::MissingIssuerState => 33,
-            CredentialError::MissingRegistryReference => 34,
-            CredentialError::RegistryMismatch => 35,
-            CredentialError::IssuerMismatch => 36,
-            CredentialError::IssuerStateMismatch => 37,
-            CredentialError::CredentialStateMismatch => 38,
-            CredentialError::Revoked => 39,
-        }
+        self as u8
     }
 
     pub fn disposition(self) -> Disposition

@@ -1,1 +1,2 @@
 pub mod CodesStatus
+pub mod Optional

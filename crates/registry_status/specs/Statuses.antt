@@ -1,5 +1,5 @@
 -- The input of `status`: its layout and limits, and how it is read (docs/RULES.md, "Bytes").
-use Rattle.std.specs.Prelude.{ℕ, List, [], ◌∷◌, ◌++◌, Bool, true, cond, ◌&&◌, ◌||◌, leb, eqb, length}
+use Rattle.std.specs.Prelude.{ℕ, List, [], ◌∷◌, ◌++◌, Bool, true, cond, ◌&&◌, ◌||◌, leb, eqb, length, map, ◌≡◌, ◌≢◌, Option, Some, None, option_to_list}
 use Rattle.cesr.specs.Primitives.{matter_bytes}
 use Rattle.cesr.specs.declared.Matter.{Matter}
 use Rattle.cesr.specs.declared.Said.{Said}
@@ -7,22 +7,14 @@ use Rattle.codec_cursor.specs.Readers.{Reader, starting, need, read_byte, read_i
 use Rattle.codec_cursor.specs.declared.Read.{Read}
 use Rattle.codec.specs.Layout.{section_bytes, all, said_bytes, good_said, good_identifier}
 use Rattle.registry_state_credential.specs.declared.CredentialState.{CredentialState}
+use Rattle.registry_status.specs.declared.Reference.{Reference}
+use Rattle.registry_status.specs.declared.Reference.TheVariants.{Unnamed, Named, Block}
 use Rattle.registry_status.specs.declared.StatusInput.{StatusInput}
-use Rattle.registry_status.specs.declared.DecodedStatus.{DecodedStatus}
-use Rattle.registry_status.specs.declared.status.ReferenceRead.{ReferenceRead}
-use Rattle.registry_status.specs.declared.status.RegistriesRead.{RegistriesRead}
-use Rattle.registry_status.specs.declared.status.CredentialsRead.{CredentialsRead}
-use Rattle.registry_status.specs.declared.status.IssuersRead.{IssuersRead}
-use Rattle.registry_state.specs.States.{Registry, view_registry, registry_bytes, good_registry, read_registry, optional}
+use Rattle.registry_state.specs.States.{Registry, view_registry, registry_bytes, good_registry, read_registry}
 use Rattle.registry_state_credential.specs.CredentialStates.{credential_bytes, good_credential, read_credential}
 
--- what a credential says of its registry: nothing, a digest that names it, or a block
-pub data Reference : Type 0 where
-  unnamed : Reference
-  named : Said → Reference
-  block : Reference
-
--- the input of `status`: a credential, and at most one registry state, credential state and issuer prefix
+-- The input of `status`: a credential, and at most one registry state, credential state and issuer prefix. Each of the three is a list,
+-- since that is what a section of the layout holds.
 pub record Status : Type 0 where
   pub said : Said
   pub issuer : Matter
@@ -32,9 +24,9 @@ pub record Status : Type 0 where
   pub issuers : List Matter
 
 abbrev pub reference_bytes : Reference → List ℕ
-reference_bytes unnamed = 0 ∷ []
-reference_bytes (named d) = 1 ∷ said_bytes d
-reference_bytes block = 2 ∷ []
+reference_bytes Unnamed = 0 ∷ []
+reference_bytes (Named d) = 1 ∷ said_bytes d
+reference_bytes Block = 2 ∷ []
 
 unfoldable pub status_bytes : Status → List ℕ
 status_bytes x =
@@ -44,9 +36,9 @@ status_bytes x =
     ++ (section_bytes registry_bytes x.registries ++ (section_bytes credential_bytes x.credentials ++ section_bytes matter_bytes x.issuers))))
 
 abbrev pub good_reference : Reference → Bool
-good_reference unnamed = true
-good_reference (named d) = good_said d
-good_reference block = true
+good_reference Unnamed = true
+good_reference (Named d) = good_said d
+good_reference Block = true
 
 -- at most one element, and that one within its limits
 unfoldable pub good_optional : {A : Type 0} → (A → Bool) → List A → Bool
@@ -63,8 +55,8 @@ good_status x =
 unfoldable pub read_reference : Reader Reference
 read_reference s c =
     let b = read_byte s c in
-    cond (eqb b.value 1) (mapped named read_said s b.next)
-    (record { value = cond (eqb b.value 2) block unnamed; next = need b.next (eqb b.value 0 || eqb b.value 2) })
+    cond (eqb b.value 1) (mapped Named read_said s b.next)
+    (record { value = cond (eqb b.value 2) Block Unnamed; next = need b.next (eqb b.value 0 || eqb b.value 2) })
 
 unfoldable pub read_registries : Reader (List Registry)
 read_registries s c = section 1 read_registry s c
@@ -84,35 +76,19 @@ unfoldable pub read_status : Reader Status
 read_status s c =
     mapped status_of (both read_said (both read_identifier (both read_reference (both read_registries (both read_credentials read_issuers))))) s c
 
--- the answer of the decoder
-pub data StatusAnswer : Type 0 where
-  malformed : StatusAnswer
-  decoded : Status → StatusAnswer
-
 -- the bytes of an input, with nothing behind the third section
-unfoldable pub decode_status : List ℕ → StatusAnswer
+unfoldable pub decode_status : List ℕ → Option Status
 decode_status s =
-    cond ((read_status s starting).next.ok && eqb (read_status s starting).next.at (length s)) (decoded (read_status s starting).value) malformed
+    cond ((read_status s starting).next.ok && eqb (read_status s starting).next.at (length s)) (Some (read_status s starting).value) None
 
-abbrev pub reference_of : ℕ → Said → Reference
-reference_of k d = cond (eqb k 1) (named d) (cond (eqb k 2) block unnamed)
+-- what reading leaves of at most one element behind its count: none at 0, else what the reader may leave
+abbrev pub IsOptional : {T : Type 0} → Read ℕ → (Read T → Type 0) → Read (Option T) → Type 0
+IsOptional n reads result =
+    (n.value ≡ 0 → result ≡ record { value = None; next = n.next })
+    × (n.value ≢ 0 → (r : Read _) × reads r × (result ≡ record { value = Some r.value; next = r.next }))
 
-abbrev pub view_reference_read : ReferenceRead → Read Reference
-view_reference_read r = record { value = reference_of r.reference r.said; next = r.next }
-
-abbrev pub view_registries_read : RegistriesRead → Read (List Registry)
-view_registries_read r = record { value = optional r.count (view_registry r.registry); next = r.next }
-
-abbrev pub view_credentials_read : CredentialsRead → Read (List CredentialState)
-view_credentials_read r = record { value = optional r.count r.credential; next = r.next }
-
-abbrev pub view_issuers_read : IssuersRead → Read (List Matter)
-view_issuers_read r = record { value = optional r.count r.issuer; next = r.next }
-
+-- what the struct of the code stands for
 abbrev pub view_status : StatusInput → Status
 view_status x =
     record
-    { said = x.said; issuer = x.issuer; reference = reference_of x.reference x.named; registries = optional x.registries (view_registry x.registry); credentials = optional x.credentials x.credential; issuers = optional x.issuers x.prefix }
-
-abbrev pub view_decoded_status : DecodedStatus → StatusAnswer
-view_decoded_status r = cond r.ok (decoded (view_status r.input)) malformed
+    { said = x.said; issuer = x.issuer; reference = x.reference; registries = map view_registry (option_to_list x.registry); credentials = option_to_list x.credential; issuers = option_to_list x.prefix }

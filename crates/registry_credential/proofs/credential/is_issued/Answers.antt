@@ -1,0 +1,9 @@
+use mathlib.Core.Path.{◌∙◌}
+use native.Mathlib.Omega.{arith}
+use Rattle.cesr_sn.specs.Numbers.{value}
+use Rattle.cesr_sn.proofs.Order.{same_value}
+use Rattle.registry_credential.proofs.credential.is_issued.Goals as goal
+
+pub returns : goal.returns
+unfolding value
+returns c = c.eq.ensures ∙ same_value c.args.w.sn (record { hi = 0; lo = 0 }) (omega arith) (omega arith)
