@@ -10,7 +10,6 @@ ghost use Rattle.ledger_standing.specs.Lookups.{key_pair, view_looked_up};
 ghost use Rattle.ledger_write.specs.Writes.{view_written};
 ghost use Rattle.ledger_table.specs.Tables.{view_ledger, ledger_after};
 
-use crate::LedgerApplied;
 use cesr::Said;
 use ledger_apply::apply::apply as apply_lent;
 use ledger_lookup::lookup::look_up as look_up_lent;
@@ -19,57 +18,53 @@ use ledger_standing::{Malformed, Standing};
 use ledger_table::Ledger;
 use ledger_write::WriteError;
 use ledger_write::write::write_image as write_lent;
+use registry_error::Answer;
 
-// One attempt. After a refusal the ledger is the one that was handed in, whatever stands in its arrays.
-pub fn apply(held: Ledger, attempt: &[u8]) -> LedgerApplied
-    ensures answer { result.answer ≡ (step_of (view_ledger held) attempt.now).answer }
-    ensures ledger { view_ledger result.ledger ≡ (step_of (view_ledger held) attempt.now).ledger }
-    ensures kept { accepts result.answer ≡ false → result.ledger ≡ held }
+// One attempt. After a refusal the ledger is as it was, whatever stands in its arrays.
+pub fn apply(ledger: &mut Ledger, attempt: &[u8]) -> Answer
+    ensures answer { result ≡ (step_of (view_ledger ledger.old) attempt.now).answer }
+    ensures ledger { view_ledger ledger.new ≡ (step_of (view_ledger ledger.old) attempt.now).ledger }
+    ensures kept { accepts result ≡ false → ledger.new ≡ ledger.old }
 {
-    let mut registries = held.registries;
-    let mut rows = held.rows;
+    let registry_count = ledger.registry_count;
+    let row_count = ledger.row_count;
     let applied = apply_lent(
-        &mut registries,
-        held.registry_count,
-        &mut rows,
-        held.row_count,
+        &mut ledger.registries,
+        registry_count,
+        &mut ledger.rows,
+        row_count,
         attempt,
     );
-    let ledger = Ledger {
-        registries,
-        registry_count: applied.registry_count,
-        rows,
-        row_count: applied.row_count,
-    };
-    LedgerApplied {
-        answer: applied.answer,
-        ledger,
-    }
+    ledger.registry_count = applied.registry_count;
+    ledger.row_count = applied.row_count;
+    applied.answer
 }
 
 // The standing of a credential.
-pub fn look_up(held: Ledger, registry: Said, credential: Said) -> Result<Standing, Malformed>
-    ensures { view_looked_up result ≡ look_up (view_ledger held) (key_pair registry credential) }
+pub fn look_up(ledger: &Ledger, registry: Said, credential: Said) -> Result<Standing, Malformed>
+    ensures { view_looked_up result ≡ look_up (view_ledger ledger.now) (key_pair registry credential) }
 {
-    let registries = held.registries;
-    let rows = held.rows;
     look_up_lent(
-        &registries,
-        held.registry_count,
-        &rows,
-        held.row_count,
+        &ledger.registries,
+        ledger.registry_count,
+        &ledger.rows,
+        ledger.row_count,
         registry,
         credential,
     )
 }
 
 // The image, from the buffer's start. After a refusal the buffer is as it was, and so are the bytes behind an image.
-pub fn write_image(held: Ledger, out: &mut [u8]) -> Result<usize, WriteError>
-    ensures { view_written result out.new ≡ written_of (view_ledger held) out.old }
+pub fn write_image(ledger: &Ledger, out: &mut [u8]) -> Result<usize, WriteError>
+    ensures { view_written result out.new ≡ written_of (view_ledger ledger.now) out.old }
 {
-    let registries = held.registries;
-    let rows = held.rows;
-    write_lent(&registries, held.registry_count, &rows, held.row_count, out)
+    write_lent(
+        &ledger.registries,
+        ledger.registry_count,
+        &ledger.rows,
+        ledger.row_count,
+        out,
+    )
 }
 
 // The ledger of an image. After a refusal the caller has the one that it handed in.

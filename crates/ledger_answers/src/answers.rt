@@ -1,57 +1,118 @@
-// The order of the ledger's checks around each fold (docs/RULES.md, "Orders").
-ghost use Rattle.std.specs.Prelude.{◌≡◌};
-ghost use Rattle.ledger_answers.specs.Checks.{asked_answer, inception_answer, rotation_answer, issue_answer, revocation_answer};
+// The four folds, each between the ledger's checks (docs/RULES.md, "Orders"). A fold is run only on states that are held. Its answer is 1 of bytes that are no attempt, so that the bytes are asked only where a check before it refuses.
+ghost use Rattle.std.specs.Prelude.{◌≡◌, ◌≢◌, MatchResult, None, Some};
+ghost use Rattle.registry_state_credential.specs.declared.CredentialState.{CredentialState};
+ghost use Rattle.cesr.specs.declared.Said.{Said};
+ghost use Rattle.ledger_reading.specs.Names.{decodes};
+ghost use Rattle.ledger_reading.specs.Pairs.{Pair};
+ghost use Rattle.ledger_reading.specs.Readings.{behind_reading};
+ghost use Rattle.ledger_answers.specs.declared.Found.{Found};
+ghost use Rattle.ledger_answers.specs.Checks.{if_read, inception_named, rotation_named, issue_named, revocation_named, Makes};
 
-use registry_answer::answer::{accept_if, accepts, or_else};
+use crate::{Change, Found};
+use ledger_reading::reading::behind_reading;
+use registry::registry::ingest as ingest_registry;
+use registry_credential_state::credential_state::ingest as ingest_credential;
 use registry_error::{Answer, RegistryRejection};
+use registry_inception::registry::incept_with_evidence;
+use registry_issue::credential_state::incept as incept_credential;
+use registry_state::RegistryState;
+use registry_state_credential::CredentialState;
 
-// What is checked before every fold.
-pub fn asked_answer(ok: bool, read: bool, refusal: u8) -> Answer
-    ensures { result ≡ asked_answer ok read refusal }
-{
-    let sound = accept_if(ok, RegistryRejection::Malformed);
-    let formed = accept_if(read, RegistryRejection::Malformed);
-    let paired = accept_if(!(refusal == 10), RegistryRejection::InconsistentRegistry);
-    or_else(sound, or_else(formed, or_else(paired, Answer::Accepted)))
-}
+// A ledger has room for so many.
+const REGISTRIES: usize = 16;
 
-// Each answer is returned where it is known: one that is joined to others is copied every time, and an accepted vcp goes through all of them.
-pub fn inception_answer(held: bool, folded: Answer, registry_count: usize) -> Answer
-    ensures { result ≡ inception_answer held folded registry_count }
+const ROWS: usize = 256;
+
+// The state that was searched for, or the refusal where there is none.
+fn held<T: Copy>(
+    s: &[u8],
+    state: Option<T>,
+    missing: RegistryRejection,
+) -> Result<T, RegistryRejection>
+    ensures { MatchResult result (λ x. state ≡ Some x) (λ r. (state ≡ None) × (r ≡ behind_reading (decodes s.now) missing)) }
 {
-    if held {
-        return Answer::Rejected(RegistryRejection::DuplicateInception);
+    match state {
+        Some(x) => Ok(x),
+        None => Err(behind_reading(s, missing)),
     }
-    if !accepts(folded) {
-        return folded;
+}
+
+// The refusal where a state was found.
+fn absent<T: Copy>(s: &[u8], state: Option<T>, present: RegistryRejection) -> Answer
+    ensures { MatchResult result (λ u. state ≡ None) (λ r. (state ≢ None) × (r ≡ behind_reading (decodes s.now) present)) }
+{
+    match state {
+        Some(_) => Err(behind_reading(s, present)),
+        None => Ok(()),
     }
-    if registry_count < 16 {
-        return Answer::Accepted;
+}
+
+// A vcp: a new registry behind the last.
+pub fn incept(s: &[u8], registry: Found<RegistryState>) -> Result<Change, RegistryRejection>
+    ensures { (row : Found CredentialState) → Makes (if_read s.now (inception_named s.now registry.state registry.count)) registry row result }
+{
+    absent(s, registry.state, RegistryRejection::DuplicateInception)?;
+    let state = incept_with_evidence(s)?;
+    let registries = registry.count;
+    if registries >= REGISTRIES {
+        return Err(RegistryRejection::NoRoom);
     }
-    Answer::Rejected(RegistryRejection::NoRoom)
+    Ok(Change::Registry {
+        at: registries,
+        state,
+        count: registries + 1,
+    })
 }
 
-pub fn rotation_answer(held: bool, folded: Answer) -> Answer
-    ensures { result ≡ rotation_answer held folded }
+// A vrt: the registry's next state.
+pub fn rotate(s: &[u8], registry: Found<RegistryState>) -> Result<Change, RegistryRejection>
+    ensures { (row : Found CredentialState) (id : Said) → Makes (if_read s.now (rotation_named s.now id registry.state)) registry row result }
 {
-    let present = accept_if(held, RegistryRejection::MissingRegistry);
-    or_else(present, or_else(folded, Answer::Accepted))
+    let g = held(s, registry.state, RegistryRejection::MissingRegistry)?;
+    let state = ingest_registry(g, s)?;
+    Ok(Change::Registry {
+        at: registry.at,
+        state,
+        count: registry.count,
+    })
 }
 
-pub fn issue_answer(held: bool, listed: bool, folded: Answer, row_count: usize) -> Answer
-    ensures { result ≡ issue_answer held listed folded row_count }
+// An iss or bis: a new row behind the last.
+pub fn issue(
+    s: &[u8],
+    registry: Found<RegistryState>,
+    row: Found<CredentialState>,
+) -> Result<Change, RegistryRejection>
+    ensures { Makes (if_read s.now (issue_named s.now registry.state row.state row.count)) registry row result }
 {
-    let present = accept_if(held, RegistryRejection::MissingRegistry);
-    let absent = accept_if(!listed, RegistryRejection::AlreadyIssued);
-    let room = accept_if(row_count < 256, RegistryRejection::NoRoom);
-    let late = or_else(folded, or_else(room, Answer::Accepted));
-    or_else(present, or_else(absent, late))
+    let issuing = held(s, registry.state, RegistryRejection::MissingRegistry)?;
+    absent(s, row.state, RegistryRejection::AlreadyIssued)?;
+    let state = incept_credential(issuing, s)?;
+    let rows = row.count;
+    if rows >= ROWS {
+        return Err(RegistryRejection::NoRoom);
+    }
+    Ok(Change::Row {
+        at: rows,
+        state,
+        count: rows + 1,
+    })
 }
 
-pub fn revocation_answer(held: bool, listed: bool, folded: Answer) -> Answer
-    ensures { result ≡ revocation_answer held listed folded }
+// A rev or brv: the row's next state.
+pub fn revoke(
+    s: &[u8],
+    registry: Found<RegistryState>,
+    row: Found<CredentialState>,
+) -> Result<Change, RegistryRejection>
+    ensures { (k : Pair) → Makes (if_read s.now (revocation_named s.now k registry.state row.state)) registry row result }
 {
-    let present = accept_if(held, RegistryRejection::MissingRegistry);
-    let found = accept_if(listed, RegistryRejection::MissingCredentialState);
-    or_else(present, or_else(found, or_else(folded, Answer::Accepted)))
+    let g = held(s, registry.state, RegistryRejection::MissingRegistry)?;
+    let w = held(s, row.state, RegistryRejection::MissingCredentialState)?;
+    let state = ingest_credential(g, w, s)?;
+    Ok(Change::Row {
+        at: row.at,
+        state,
+        count: row.count,
+    })
 }

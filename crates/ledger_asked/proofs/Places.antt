@@ -22,7 +22,10 @@ use Rattle.codec_laws.proofs.Stands.{went, passed}
 use Rattle.codec_laws.proofs.Sticky.{Sticky, sticky-both, sticky-number, sticky-said, sticky-identifier, sticky-counted, sticky-after, sticky-ended, sticky-toad, sticky-configs, sticky-prefixes, sticky-event-seal, sticky-seal}
 use Rattle.registry_state.specs.States.{no_said}
 use Rattle.ledger_step.specs.Pairs.{pair_in}
+use Rattle.std.proofs.Common.{Result, Ok}
+use Rattle.registry_error.specs.declared.RegistryRejection.{RegistryRejection}
 use Rattle.ledger_asked.specs.declared.Named.{Named}
+use Rattle.ledger_asked.specs.declared.Asks.TheVariants.{Inception, Rotation, Issue, Revocation}
 use Rattle.ledger_asked.specs.Names.{about, named_pair, named_event, named_at, pair_at, named_by, head_named}
 
 -- a reader that takes n bytes
@@ -120,7 +123,7 @@ named-by {A} {p} {v} f r s c n o h =
     ap (λ (x : A). named_event (f x)) (r.value s c h ∙ ap (λ (d : Cursor). v s d.at) (o (r.before s c h)))
 
 -- one of two events, by a test
-either : (t : Bool) (x y : Read Event) (a b : Named) → (x.next.ok ≡ true → named_event x.value ≡ a) → (y.next.ok ≡ true → named_event y.value ≡ b) → (cond t x y).next.ok ≡ true → named_event (cond t x y).value ≡ cond t a b
+either : (t : Bool) (x y : Read Event) (a b : Result Named RegistryRejection) → (x.next.ok ≡ true → named_event x.value ≡ a) → (y.next.ok ≡ true → named_event y.value ≡ b) → (cond t x y).next.ok ≡ true → named_event (cond t x y).value ≡ cond t a b
 either true x y a b h k e = h e
 either false x y a b h k e = k e
 
@@ -133,29 +136,29 @@ five-empty = sticky-ended 0 (sticky-ended 0 (sticky-ended 0 (sticky-ended 0 (sti
 
 -- each kind, from the place behind its byte
 module _ (s : List ℕ) (c : Cursor) (o : c.ok ≡ true → c ≡ placed 1) where
-  vcp-named : (read_vcp s c).next.ok ≡ true → named_event (read_vcp s c).value ≡ about 1 (said_at s 2) no_said
+  vcp-named : (read_vcp s c).next.ok ≡ true → named_event (read_vcp s c).value ≡ Ok (about Inception (said_at s 2) no_said)
   unfolding read_vcp read_said read_if
   vcp-named =
       named-by vcp_of
       (reads-after 2 (reads-own (sticky-both sticky-said (sticky-both sticky-identifier (sticky-after 1 (sticky-both sticky-toad (sticky-both sticky-configs (sticky-ended 0 (sticky-ended 0 sticky-prefixes)))))))))
       s c 1 o
 
-  vrt-named : (read_vrt s c).next.ok ≡ true → named_event (read_vrt s c).value ≡ about 2 (said_at s 35) no_said
+  vrt-named : (read_vrt s c).next.ok ≡ true → named_event (read_vrt s c).value ≡ Ok (about Rotation (said_at s 35) no_said)
   unfolding read_vrt read_said read_if
   vrt-named =
       named-by vrt_of
       (reads-after 3 (reads_both fixed-said (reads-own (sticky-both sticky-said (sticky-both sticky-said (sticky-after 2 (sticky-both sticky-number (sticky-both sticky-toad (sticky-after 0 (sticky-both sticky-prefixes (sticky-ended 0 sticky-prefixes)))))))))))
       s c 1 o
 
-  iss-named : (read_iss s c).next.ok ≡ true → named_event (read_iss s c).value ≡ named_at 3 s
+  iss-named : (read_iss s c).next.ok ≡ true → named_event (read_iss s c).value ≡ Ok (named_at Issue s)
   unfolding read_iss read_said read_if
   iss-named = named-by iss_of (reads-after 3 (reads_both fixed-said (reads_both fixed-said (reads-own five-empty)))) s c 1 o
 
-  rev-named : (read_rev s c).next.ok ≡ true → named_event (read_rev s c).value ≡ named_at 4 s
+  rev-named : (read_rev s c).next.ok ≡ true → named_event (read_rev s c).value ≡ Ok (named_at Revocation s)
   unfolding read_rev read_said read_if
   rev-named = named-by rev_of (reads-after 4 (reads_both fixed-said (reads_both fixed-said (reads-own (sticky-both sticky-said five-empty))))) s c 1 o
 
-  bis-named : (read_bis s c).next.ok ≡ true → named_event (read_bis s c).value ≡ named_at 3 s
+  bis-named : (read_bis s c).next.ok ≡ true → named_event (read_bis s c).value ≡ Ok (named_at Issue s)
   unfolding read_bis read_said read_if
   bis-named =
       named-by bis_of (reads-after 3 (reads_both fixed-said (reads_both fixed-said (reads_both four-empty (reads-after 1 reads-seal))))) s c 1 o

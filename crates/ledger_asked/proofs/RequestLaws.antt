@@ -1,5 +1,5 @@
 -- What an attempt names, by its event alone.
---     decodes-as     the decoder's struct says whether the bytes are an attempt
+--     decodes_as     the decoder answers some attempt where the bytes are one, and there alone
 --     request-named  what an event asks is named by the event
 --     named-head     bytes that are an attempt ask what stands at the places of its names
 --     unread         bytes that are none do not decode
@@ -10,14 +10,15 @@ use mathlib.Core.Bool.{Bool, true, false, cond, ◌&&◌, true≢false, false≢
 use mathlib.Core.List.{List, [], ◌∷◌}
 use lib.Dec.{eqb}
 use lib.ListN.{length}
+use Rattle.std.specs.Prelude.{Option, None, Some, is_some}
 use Rattle.laws.proofs.Tests.{and_left}
 use Rattle.codec_cursor.specs.Readers.{starting}
 use Rattle.codec.specs.Events.{read_event}
 use Rattle.events_tel.specs.TelEvents.{Event}
 use Rattle.events_tel.specs.TelEvents.Event.{vcp, vrt, iss, rev, bis, brv}
-use Rattle.registry_wire.specs.Attempts.{Message, Decoded, read_message, decode_of, view_attempt, view_decoded}
+use Rattle.registry_wire.specs.Attempts.{Message, Decoded, read_message, decode_of, view_decoded}
 use Rattle.registry_wire.specs.Attempts.Decoded.{malformed, decoded}
-use Rattle.registry_wire.specs.declared.DecodedAttempt.{DecodedAttempt}
+use Rattle.registry_wire.specs.declared.Attempt.{Attempt}
 use Rattle.registry_wire.proofs.StickyAttempt.{sticky-sections}
 use Rattle.registry_error.specs.declared.RegistryRejection.TheVariants.{Malformed}
 use Rattle.ledger_step.specs.Pairs.{Pair, pair_in}
@@ -26,13 +27,13 @@ use Rattle.ledger_step.specs.Steps.Request.{nothing}
 use Rattle.ledger_asked.specs.Names.{named_of, named_pair, named_event, head_named, is_decoded, decodes}
 use Rattle.ledger_asked.proofs.Places.{event-named}
 
-pub decodes-as : (s : List ℕ) (r : DecodedAttempt) → view_decoded s r ≡ decode_of s → r.ok ≡ decodes s
+pub decodes_as : (s : List ℕ) (d : Option Attempt) → view_decoded s d ≡ decode_of s → is_some d ≡ decodes s
 unfolding decodes
-decodes-as s r e = go r.ok ∙ ap is_decoded e
+decodes_as s d e = go d ∙ ap is_decoded e
   where
-    go : (t : Bool) → t ≡ is_decoded (cond t (decoded (view_attempt s r.attempt)) malformed)
-    go true = refl
-    go false = refl
+    go : (d : Option Attempt) → is_some d ≡ is_decoded (view_decoded s d)
+    go None = refl
+    go (Some a) = refl
 
 request-named : (e : Event) (m : Message) → named_of (event_request e m) ≡ named_event e
 request-named (vcp said issuer toad configs backers) m = refl

@@ -1,81 +1,71 @@
 // What an attempt asks of the ledger (docs/RULES.md, "Ledger"). In an attempt's bytes the kind tells the places of the names, so nothing is decoded for them: that is the fold's to do.
-ghost use Rattle.std.specs.Prelude.{◌≡◌, []};
-ghost use Rattle.ledger_asked.specs.Names.{about, named_pair, named_at, pair_at, head_named, decodes};
+ghost use Rattle.std.specs.Prelude.{◌≡◌, Ok};
+ghost use Rattle.ledger_asked.specs.Names.{about, named_at, named_pair, pair_at, head_named, decodes};
 
-use crate::Named;
+use crate::{Asks, Named};
 use cesr::{Matter, Said};
 use cesr_number::number::read_u8;
+use registry_error::RegistryRejection;
 use registry_wire::Attempt;
 
-// A brv that names no pair gets 10.
-fn unpaired() -> Named
-    ensures { result ≡ named_pair [] }
-{
-    let none = Said(Matter::none());
-    Named {
-        refusal: 10,
-        kind: 0,
-        registry: none,
-        credential: none,
-    }
-}
-
-fn about(kind: u8, registry: Said, credential: Said) -> Named
-    ensures { result ≡ about kind registry credential }
+fn about(asks: Asks, registry: Said, credential: Said) -> Named
+    ensures { result ≡ about asks registry credential }
 {
     Named {
-        refusal: 0,
-        kind,
+        asks,
         registry,
         credential,
     }
 }
 
 // An iss, a rev or a bis.
-fn named_at(kind: u8, s: &[u8]) -> Named
-    ensures { result ≡ named_at kind s.now }
+fn named_at(asks: Asks, s: &[u8]) -> Named
+    ensures { result ≡ named_at asks s.now }
 {
     let credential = Said::read(s, 35);
     let registry = Said::read(s, 68);
-    about(kind, registry, credential)
+    about(asks, registry, credential)
 }
 
-// A brv's registry is the said in its own seal.
-fn named_sealed(s: &[u8]) -> Named
+// A brv's registry is the said in its own seal. One that names no pair gets 10.
+#[tactic(auto, unfolding(events_seal::specs::Identifiers::identifier_of))]
+fn named_sealed(s: &[u8]) -> Result<Named, RegistryRejection>
     ensures { result ≡ named_pair (pair_at s.now) }
 {
+    let unpaired = Err(RegistryRejection::InconsistentRegistry);
     let seal = read_u8(s, 106);
     if seal != 4 {
-        return unpaired();
+        return unpaired;
     }
     let i = Matter::read(s, 107);
     if i.is_basic() {
-        return unpaired();
+        return unpaired;
     }
     let credential = Said::read(s, 35);
-    about(4, Said(i), credential)
+    Ok(about(Asks::Revocation, Said(i), credential))
 }
 
 // What stands at the places of the names. That the bytes are an attempt is not looked at: of others the answer means nothing.
-pub fn named(s: &[u8]) -> Named
+#[tactic(auto, unfolding(crate::specs::Names::head_named))]
+pub fn named(s: &[u8]) -> Result<Named, RegistryRejection>
     ensures { result ≡ head_named s.now }
 {
     let none = Said(Matter::none());
     let kind = read_u8(s, 0);
     match kind {
-        1 => about(1, Said::read(s, 2), none),
-        2 => about(2, Said::read(s, 35), none),
-        3 => named_at(3, s),
-        4 => named_at(4, s),
-        5 => named_at(3, s),
+        1 => Ok(about(Asks::Inception, Said::read(s, 2), none)),
+        2 => Ok(about(Asks::Rotation, Said::read(s, 35), none)),
+        3 => Ok(named_at(Asks::Issue, s)),
+        4 => Ok(named_at(Asks::Revocation, s)),
+        5 => Ok(named_at(Asks::Issue, s)),
         _ => named_sealed(s),
     }
 }
 
 // Whether the bytes are an attempt.
+#[tactic(auto, using(crate::proofs::RequestLaws::decodes_as))]
 pub fn decodes(s: &[u8]) -> bool
     ensures { result ≡ decodes s.now }
 {
-    let d = Attempt::decode(s);
-    d.ok
+    Attempt::decode(s).is_some()
 }

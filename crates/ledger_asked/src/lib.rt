@@ -2,15 +2,22 @@
 #![tactic(auto)]
 
 pub mod asked;
-pub mod call;
 
 use cesr::Said;
 
-// 0, or 10 of a brv that names no pair; 1 a vcp, 2 a vrt, 3 an iss or bis, 4 a rev or brv, or 0 after a refusal; and the registry and the credential that it is about, blank where it names none.
+// The fold that is asked for: that of a vcp, of a vrt, of an iss or a bis, of a rev or a brv.
+#[derive(Clone, Copy, PartialEq, Eq)]
+pub enum Asks {
+    Inception,
+    Rotation,
+    Issue,
+    Revocation,
+}
+
+// The fold, and the registry and the credential that it is about. Where it is about no credential a blank said stands there and no Option, since the row is searched for alike in every case.
 #[derive(Clone, Copy)]
 pub struct Named {
-    pub refusal: u8,
-    pub kind: u8,
+    pub asks: Asks,
     pub registry: Said,
     pub credential: Said,
 }

@@ -12,10 +12,11 @@ use ledger_step::slices::in_use;
 use registry_state::RegistryState;
 use registry_state_credential::CredentialState;
 
+#[tactic(auto, unfolding(cesr::specs::Primitives::eq_matter))]
 fn has_id(registries: &[RegistryState], id: Said) -> bool
     ensures { result ≡ list_any (λ g. eq_said g.id id) registries.now }
 {
-    registries.iter().any(|g| g.id.same(id))
+    registries.iter().any(|g| g.id == id)
 }
 
 fn all_held<'a>(registries: &'a [RegistryState], rows: &'a [CredentialState]) -> bool

@@ -8,7 +8,7 @@ use codec_cursor::Cursor;
 pub use ledger_image::Malformed;
 use ledger_image_rows_check::Ids;
 
-// How many registries and rows an image has, and the byte at which its first row stands. The registries stand from byte 2 on.
+// How many registries and rows an image has, and the byte at which its first row stands. The registries stand from byte 2 on. Both are counts, up to 16 and 256.
 #[derive(Clone, Copy)]
 pub struct Checked {
     pub registries: usize,

@@ -2,7 +2,6 @@
 #![tactic(auto)]
 
 ghost use Rattle.std.specs.Prelude.{◌≡◌, [], ◌≤◌, length};
-ghost use Rattle.std.specs.List.{list_any};
 ghost use Rattle.cesr.specs.Primitives.{eq_said};
 ghost use Rattle.ledger_step.specs.Tables.{has};
 ghost use Rattle.ledger_image_ids.specs.IdLists.{view_ids, pushed};
@@ -10,7 +9,7 @@ ghost use Rattle.ledger_image_ids.specs.IdLists.{view_ids, pushed};
 use cesr::{Matter, Said};
 use ledger_step::slices::in_use;
 
-// The ids are the first `count` of the items.
+// The ids are the first `count` of the items, which are an array, since there is no heap.
 #[derive(Clone, Copy)]
 pub struct Ids {
     pub items: [Said; 16],
@@ -58,12 +57,6 @@ impl Ids {
     pub fn contains(&self, id: Said) -> bool
         ensures { result ≡ has eq_said id (view_ids self.now) }
     {
-        is_among(self.as_slice(), id)
+        self.as_slice().contains(&id)
     }
-}
-
-fn is_among(ids: &[Said], id: Said) -> bool
-    ensures { result ≡ list_any (λ x. eq_said x id) ids.now }
-{
-    ids.iter().any(|x| x.same(id))
 }

@@ -22,7 +22,7 @@ fn same_key(s: &[u8], at: usize, w: CredentialState) -> bool
     if read_u64(s, at + 34) != w.credential.0.w0 {
         return false;
     }
-    Matter::read(s, at).same(w.registry.0) & Matter::read(s, at + 33).same(w.credential.0)
+    (Matter::read(s, at) == w.registry.0) & (Matter::read(s, at + 33) == w.credential.0)
 }
 
 // Whether the key is that of one of the n rows that stand from a place on.
@@ -48,7 +48,7 @@ fn row_passes(s: &[u8], at: usize, i: usize, ids: &Ids, n: usize) -> bool
     };
     let row = CredentialState::read(place, s);
     let two = Sn { hi: 0, lo: 2 };
-    let low = row.value.sn.less(two);
+    let low = row.value.sn < two;
     let home = ids.contains(row.value.registry);
     row.next.ok & (home & (low & !has_key(s, at, n, row.value)))
 }

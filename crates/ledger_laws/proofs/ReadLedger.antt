@@ -5,7 +5,7 @@
 --     view-as        the ledger afterwards is the one that the image holds, or the one that was there
 --     kept-as        after a refusal it is the one that was there, whatever stands in its arrays
 --     read-refused   and so it is held on
-use Rattle.std.specs.Prelude.{Result, Ok, Err}
+use Rattle.std.specs.Prelude.{Result}
 use Prim.Native.Nat.{ℕ}
 use native.Mathlib.Omega.{arith}
 use mathlib.Core.Path.{◌≡◌, refl, ap, sym, ◌∙◌}
@@ -15,7 +15,7 @@ use Rattle.registry_state.specs.declared.RegistryState.{RegistryState}
 use Rattle.registry_state_credential.specs.declared.CredentialState.{CredentialState}
 use Rattle.ledger_image.specs.Images.{ImageAnswer, image_number, image_of, image_into}
 use Rattle.ledger_image.specs.Images.ImageAnswer.{refused, held}
-use Rattle.ledger_read.specs.ImageReads.{Counts, ReadInto, counts_of, counts_after, rows_after}
+use Rattle.ledger_read.specs.ImageReads.{ReadInto, counts_of, counts_after, rows_after}
 use Rattle.ledger_step.specs.Refusals.{refusal_of}
 use Rattle.ledger_step.specs.declared.Malformed.{Malformed}
 use Rattle.ledger_read.specs.declared.ImageRead.{ImageRead}

@@ -1,4 +1,4 @@
-// One call of the ledger on values: what an attempt leaves of the registry and the row that it names (docs/RULES.md, "Ledger", "Next states").
+// What an attempt makes of the registry and the row that it names, on values (docs/RULES.md, "Ledger", "Next states").
 #![tactic(auto)]
 
 pub mod step;

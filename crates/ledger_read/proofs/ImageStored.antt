@@ -21,7 +21,7 @@ use Rattle.registry_state.specs.declared.RegistryState.{RegistryState}
 use Rattle.registry_state_credential.specs.declared.CredentialState.{CredentialState}
 use Rattle.ledger_registry_image.specs.Ledgers.{held_of}
 use Rattle.ledger_registry_image.specs.Steps.{held_now}
-use Rattle.ledger_row_image.specs.Images.{ImageAnswer, image_number, read_registries, image_of, image_into}
+use Rattle.ledger_row_image.specs.Images.{ImageAnswer, read_registries, image_of, image_into}
 use Rattle.ledger_row_image.specs.Images.ImageAnswer.{refused, held}
 use Rattle.ledger_registry_image.specs.RowImages.{rows_from}
 use Rattle.ledger_registry_image.specs.RegistrySections.{registries_in, Stored}

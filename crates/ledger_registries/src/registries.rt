@@ -28,10 +28,11 @@ pub fn store_registry(registries: &mut [RegistryState], at: usize, g: RegistrySt
     }
 }
 
+#[tactic(auto, unfolding(cesr::specs::Primitives::eq_matter))]
 fn position(registries: &[RegistryState], id: Said) -> Option<usize>
     ensures { result ≡ position (λ g. eq_said g.id id) registries.now }
 {
-    registries.iter().position(|g| g.id.same(id))
+    registries.iter().position(|g| g.id == id)
 }
 
 // The first place among the first `count` registries whose registry has that id. Where there is none it answers how many these registries are: the count, or the slice's length where that is less. There a new registry has its place.

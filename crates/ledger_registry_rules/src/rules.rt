@@ -1,7 +1,5 @@
 // The reading rules of one registry, and what the check of all of them asks of each.
 ghost use Rattle.std.specs.Prelude.{◌≡◌, ◌&&◌};
-ghost use Rattle.std.specs.List.{list_any};
-ghost use Rattle.cesr.specs.Primitives.{eq_prefix};
 ghost use Rattle.events.specs.Members.{view, check_members};
 ghost use Rattle.codec.specs.Layout.{all};
 ghost use Rattle.registry_state.specs.States.{view_registry, well_registry, is_backer};
@@ -20,19 +18,13 @@ fn listed(members: &Members) -> &[BasicPrefix]
     members.items.get(..members.count).unwrap_or(&members.items)
 }
 
-fn is_among(backers: &[BasicPrefix], x: BasicPrefix) -> bool
-    ensures { result ≡ list_any (λ y. eq_prefix y x) backers.now }
-{
-    backers.iter().any(|y| y.same(x))
-}
-
 // Whether every backer has a prefix's letter and stands once.
 fn backers_sound(backers: &[BasicPrefix]) -> bool
     ensures { result ≡ (all is_backer backers.now && accepts (backer_set (check_members backers.now))) }
 {
     for i in 0..backers.len() {
         let x = backers[i];
-        if !x.0.is_basic() || is_among(&backers[..i], x) {
+        if !x.0.is_basic() || backers[..i].contains(&x) {
             return false;
         }
     }

@@ -11,5 +11,5 @@ pub fn row_sound(w: CredentialState) -> bool
     ensures { result ≡ (well_credential w && zero_or_one w) }
 {
     let two = Sn { hi: 0, lo: 2 };
-    w.well_formed() & w.sn.less(two)
+    w.well_formed() & (w.sn < two)
 }

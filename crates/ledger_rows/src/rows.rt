@@ -23,11 +23,12 @@ pub fn store_row(rows: &mut [CredentialState], at: usize, w: CredentialState)
 }
 
 // Most rows differ from a key in the first word of the credential, so that is looked at first.
+#[tactic(auto, unfolding(cesr::specs::Primitives::eq_matter))]
 fn has_key(w: &CredentialState, registry: Said, credential: Said) -> bool
     ensures { result ≡ has_key w.now registry credential }
 {
     w.credential.0.w0 == credential.0.w0
-        && (w.registry.same(registry) & w.credential.same(credential))
+        && ((w.registry == registry) & (w.credential == credential))
 }
 
 fn position(rows: &[CredentialState], registry: Said, credential: Said) -> Option<usize>

@@ -1,5 +1,5 @@
 -- The look-up of a lent ledger (docs/RULES.md, "Look-up", "Reading rules").
-use Rattle.std.specs.Prelude.{ℕ, Bool, cond, ◌&&◌, ltb, Result, Ok, Err}
+use Rattle.std.specs.Prelude.{ℕ, Bool, cond, ◌&&◌, Option, None, Some, Result, Ok, Err}
 use Rattle.std.proofs.Math.Option.{none, some}
 use Rattle.cesr.specs.declared.Said.{Said}
 use Rattle.registry_state_credential.specs.declared.CredentialState.{CredentialState}
@@ -23,9 +23,14 @@ abbrev pub view_looked_up : Result Standing Malformed → LookedUp
 view_looked_up (Ok s) = record { refusal = 0; standing = standing_number s }
 view_looked_up (Err e) = record { refusal = 1; standing = 0 }
 
--- what is answered where a search for the key ended at a place, and this row stands there
-unfoldable pub looked_up_of : Bool → ℕ → ℕ → CredentialState → Pair → LookedUp
-looked_up_of ok at n w k =
-    cond (ok && well_pair k)
-    (record { refusal = 0; standing = standing_of (cond (ltb at n) (some w) none) })
+-- the standing by the row that a search for the key found, or that there is none
+abbrev pub row_standing : Option CredentialState → ℕ
+row_standing None = standing_of none
+row_standing (Some w) = standing_of (some w)
+
+-- what is answered where that is the row of a key
+unfoldable pub looked_up_of : Bool → Option CredentialState → Pair → LookedUp
+looked_up_of sound row k =
+    cond (sound && well_pair k)
+    (record { refusal = 0; standing = row_standing row })
     (record { refusal = 1; standing = 0 })

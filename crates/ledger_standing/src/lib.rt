@@ -6,10 +6,10 @@ pub mod number;
 
 pub use ledger_step::Malformed;
 
-// What a look-up answers of a credential.
+// What a look-up answers of a credential, with its number.
 #[derive(Clone, Copy, PartialEq, Eq)]
 pub enum Standing {
-    Issued,
-    Revoked,
-    Unknown,
+    Issued = 1,
+    Revoked = 2,
+    Unknown = 3,
 }

@@ -8,10 +8,6 @@ impl Standing {
     pub fn number(self) -> u8
         ensures { result ≡ standing_number self }
     {
-        match self {
-            Standing::Issued => 1,
-            Standing::Revoked => 2,
-            Standing::Unknown => 3,
-        }
+        self as u8
     }
 }

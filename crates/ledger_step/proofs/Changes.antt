@@ -22,8 +22,8 @@ use Rattle.registry_state_credential.specs.declared.CredentialState.{CredentialS
 use Rattle.registry_laws.specs.Attempts.{Message, Decoded, decode_of}
 use Rattle.registry_laws.specs.Attempts.Decoded.{malformed, decoded}
 use Rattle.registry_answer.specs.Answers.{accepts}
-use Rattle.registry_error.specs.declared.Answer.{Answer}
-use Rattle.registry_error.specs.declared.Answer.TheVariants.{Accepted, Rejected}
+use Rattle.registry_error.specs.Errors.{Answer}
+use Rattle.std.proofs.Common.{Ok, Err}
 use Rattle.registry_error.specs.declared.RegistryRejection.TheVariants.{NoRoom}
 use Rattle.registry_laws.specs.InceptionFolds as N
 use Rattle.registry_laws.specs.RegistryFolds as R
@@ -119,8 +119,8 @@ Legal s q (set_row k w) = SetRow s q k w
 
 -- a change is legal where it is when the fold accepts, and when there is room
 after-legal : (s : Ledger) (q : Request) (a : Answer) (e : Effect) → (accepts a ≡ true → Legal s q e) → Legal s q (after_fold a e)
-after-legal s q Accepted e h = h refl
-after-legal s q (Rejected r) e h = tt
+after-legal s q (Ok u) e h = h refl
+after-legal s q (Err r) e h = tt
 
 room-legal : (s : Ledger) (q : Request) (n limit : ℕ) (e : Effect) → (n < limit → Legal s q e) → Legal s q (with_room n limit e)
 room-legal s q n limit e h = go (ltb n limit) refl

@@ -10,7 +10,7 @@ use native.Mathlib.Omega.{arith}
 use borrow.Author.Tests.{not-true}
 use lib.ListN.{length, get_elem?}
 use Rattle.cesr.specs.Primitives.{eq_said}
-use Rattle.registry_error.specs.declared.Answer.TheVariants.{Rejected}
+use Rattle.std.proofs.Common.{Err}
 use Rattle.registry_error.specs.declared.RegistryRejection.TheVariants.{Malformed}
 use Rattle.registry_laws.specs.Pairs.{Pair, key_of}
 use Rattle.ledger_step.specs.Tables.{has}
@@ -106,15 +106,15 @@ module _ (l : Ledger) (broken : sound l ≡ false) where
   unfolding step_of
   still s = rw (refused (request_of s))
 
-  says : (s : List ℕ) → result_at l s ≡ result_of (Rejected Malformed)
+  says : (s : List ℕ) → result_at l s ≡ result_of (Err Malformed)
   unfolding step_of
   says s = rw (refused (request_of s))
 
   stays : (xs : List (List ℕ)) → end_of l xs ≡ l
   stays = idle-final next_of l still
 
-  answer : (xs : List (List ℕ)) (i : ℕ) → i < length xs → get_elem? (results_of l xs) i ≡ some (result_of (Rejected Malformed))
-  answer = idle-answers next_of l still result_at (result_of (Rejected Malformed)) says
+  answer : (xs : List (List ℕ)) (i : ℕ) → i < length xs → get_elem? (results_of l xs) i ≡ some (result_of (Err Malformed))
+  answer = idle-answers next_of l still result_at (result_of (Err Malformed)) says
 
   broken-runs : (xs ys : List (List ℕ)) (m : Matched xs ys) → SameRuns l xs ys m
   broken-runs xs ys m =

@@ -9,8 +9,8 @@ use Rattle.registry_laws.specs.Attempts.{Evidence}
 use Rattle.registry_laws.specs.Attempts.Evidence.{missing, issuer, backer, backer_at}
 use Rattle.registry_disposition.specs.Dispositions.{awaited_of}
 use Rattle.registry_error.specs.Errors.{answer_number, answer_letter, disposition_of, details_of}
-use Rattle.registry_error.specs.declared.Answer.{Answer}
-use Rattle.registry_error.specs.declared.Answer.TheVariants.{Accepted, Rejected}
+use Rattle.registry_error.specs.Errors.{Answer}
+use Rattle.std.specs.Prelude.{Ok, Err}
 use Rattle.registry_laws.specs.Pairs.{Pair}
 use Rattle.ledger_step.specs.Tables.{has, found}
 use Rattle.ledger_step.specs.Ledgers.{Ledger, eq_pair, row_at, look_up}
@@ -26,12 +26,12 @@ pub record Result : Type 0 where
   pub details : List ℕ
 
 abbrev pub answer_awaited : Answer → ℕ
-answer_awaited Accepted = 0
-answer_awaited (Rejected r) = awaited_of (disposition_of r)
+answer_awaited (Ok u) = 0
+answer_awaited (Err r) = awaited_of (disposition_of r)
 
 abbrev pub answer_details : Answer → List ℕ
-answer_details Accepted = []
-answer_details (Rejected r) = details_of r
+answer_details (Ok u) = []
+answer_details (Err r) = details_of r
 
 abbrev pub result_of : Answer → Result
 result_of a = record { number = answer_number a; letter = answer_letter a; awaited = answer_awaited a; details = answer_details a }

@@ -9,8 +9,8 @@ use Rattle.registry_state.specs.States.{Registry}
 use Rattle.registry_state_credential.specs.declared.CredentialState.{CredentialState}
 use Rattle.registry_laws.specs.Attempts.{Message, Decoded, decode_of}
 use Rattle.registry_laws.specs.Attempts.Decoded.{malformed, decoded}
-use Rattle.registry_error.specs.declared.Answer.{Answer}
-use Rattle.registry_error.specs.declared.Answer.TheVariants.{Accepted, Rejected}
+use Rattle.registry_error.specs.Errors.{Answer}
+use Rattle.std.specs.Prelude.{Ok, Err}
 use Rattle.registry_error.specs.declared.RegistryRejection.{RegistryRejection}
 use Rattle.registry_error.specs.declared.RegistryRejection.TheVariants.{Malformed, MissingRegistry, DuplicateInception, AlreadyIssued, MissingCredentialState, InconsistentRegistry, NoRoom}
 use Rattle.registry_laws.specs.InceptionFolds as N
@@ -61,8 +61,8 @@ pub data Effect : Type 0 where
 
 -- the fold's refusal, or the change
 abbrev pub after_fold : Answer → Effect → Effect
-after_fold Accepted e = e
-after_fold (Rejected r) e = refuse r
+after_fold (Ok u) e = e
+after_fold (Err r) e = refuse r
 
 -- 29: so many are held already
 abbrev pub with_room : ℕ → ℕ → Effect → Effect
@@ -102,11 +102,11 @@ unfoldable pub effect : Ledger → Request → Effect
 effect l q = cond (sound l) (effect_of l q) (refuse Malformed)
 
 abbrev pub answer_of : Effect → Answer
-answer_of (refuse r) = Rejected r
-answer_of (new_registry g) = Accepted
-answer_of (set_registry id g) = Accepted
-answer_of (new_row w) = Accepted
-answer_of (set_row k w) = Accepted
+answer_of (refuse r) = Err r
+answer_of (new_registry g) = Ok tt
+answer_of (set_registry id g) = Ok tt
+answer_of (new_row w) = Ok tt
+answer_of (set_row k w) = Ok tt
 
 -- the state that a fold of a registry leaves, as it is held
 abbrev pub held_now : Registry → Held

@@ -1,54 +1,63 @@
 -- What an attempt comes to by what it names is what it comes to in the ledger.
---     Found          what the searches found of a ledger, for what is named
---     named-effect   the law
+--     Searched, searched             what the searches found of a ledger, for what is named
+--     named-effect, unnamed-effect   the law, of an attempt that names something and of one that does not
 use Prim.Native.Nat.{ℕ}
 use mathlib.Core.Path.{◌≡◌, refl, sym, ap, subst, ◌∙◌}
 use mathlib.Core.Bool.{Bool, true, false, cond, false≢true}
-use mathlib.Core.Option.{Option, none, some}
-use mathlib.Core.List.{List, [], ◌∷◌}
+use Rattle.std.proofs.Math.Option as M
+use Rattle.std.specs.Prelude.{Option, None, Some}
+use mathlib.Core.List.{List, [], ◌∷◌, map}
+use borrow.Author.Tests.{ltb-true, ltb-false}
 use lib.Dec.{ltb}
+use lib.ListN.{length, get_or, take}
+use Rattle.std.specs.List.{slice_get}
+use Rattle.std.specs.Option.{option_map}
+use Rattle.std.proofs.lemmas.Option.{slice_get-map, slice_get-get_or, slice_get_past}
+use Rattle.std.proofs.Common.{Result, Ok, Err}
 use Rattle.cesr.specs.Primitives.{eq_said}
 use Rattle.cesr.specs.declared.Said.{Said}
 use Rattle.events_tel.specs.TelEvents.{Event}
 use Rattle.events_tel.specs.TelEvents.Event.{vcp, vrt, iss, rev, bis, brv}
 use Rattle.registry_state.specs.States.{view_registry, well_registry}
-use Rattle.registry_state_credential.specs.CredentialStates.{well_credential}
+use Rattle.registry_state_credential.specs.CredentialStates.{no_credential, well_credential}
 use Rattle.registry_state.specs.declared.RegistryState.{RegistryState}
 use Rattle.registry_state_credential.specs.declared.CredentialState.{CredentialState}
 use Rattle.registry_wire.specs.Attempts.{Message, Decoded, decode_of}
 use Rattle.registry_wire.specs.Attempts.Decoded.{malformed, decoded}
-use Rattle.registry_error.specs.Errors.{number_of}
-use Rattle.registry_answer.specs.Answers.{accept_if, first_of}
-use Rattle.registry_error.specs.declared.Answer.{Answer}
-use Rattle.registry_error.specs.declared.Answer.TheVariants.{Accepted, Rejected}
-use Rattle.registry_error.specs.declared.RegistryRejection.TheVariants.{Malformed, NoRoom}
+use Rattle.registry_error.specs.declared.RegistryRejection.{RegistryRejection}
+use Rattle.registry_error.specs.declared.RegistryRejection.TheVariants.{Malformed}
 use Rattle.registry_inception.specs.InceptionFolds as N
 use Rattle.ledger_rows.specs.RegistryFolds as R
 use Rattle.registry_issue.specs.IssueFolds as I
 use Rattle.ledger_rows.specs.CredentialFolds as C
 use Rattle.ledger_rows.specs.Pairs.{Pair, pair_in, key_of}
-use Rattle.ledger_rows.specs.Ledgers.{Ledger, held_of, id_of, eq_pair, registry_at, row_at, keeps_layout, sound}
-use Rattle.ledger_rows.specs.Steps.{Request, revocation_of, event_request, decoded_request, request_of, Effect, after_fold, inception_effect, rotation_effect, issue_effect, revocation_effect, effect_of, effect}
+use Rattle.ledger_rows.specs.Tables.{place}
+use Rattle.ledger_rows.specs.Ledgers.{Held, Ledger, held_of, id_of, eq_pair, registry_at, row_at, keeps_layout, lent_ledger, sound}
+use Rattle.ledger_rows.specs.Steps.{Request, revocation_of, event_request, decoded_request, request_of, Effect, after_fold, with_room, inception_effect, rotation_effect, issue_effect, revocation_effect, effect_of, effect}
 use Rattle.ledger_rows.specs.Steps.Request.{nothing, inception, rotation, issue, revocation}
 use Rattle.ledger_rows.specs.Steps.Effect.{refuse, new_registry, set_registry, new_row, set_row}
+use Rattle.ledger_rows.specs.Rows.{find_at}
+use Rattle.ledger_rows.proofs.PlaceLaws.{find-place}
 use Rattle.ledger_rows.proofs.TableLaws.{all-find}
 use Rattle.ledger_rows.proofs.Rules.{Keeps, parts}
+use Rattle.ledger_registries.specs.Registries.{no_held, find_registry}
 use Rattle.ledger_asked.specs.declared.Named.{Named}
 use Rattle.ledger_asked.specs.Names.{named_of, head_named, is_decoded, decodes}
 use Rattle.ledger_asked.proofs.RequestLaws.{named-head, asks_nothing}
-use Rattle.ledger_answers.specs.Checks.{asked_answer, inception_answer, rotation_answer, issue_answer, revocation_answer}
-use Rattle.ledger_stores.specs.Effects.{inception_named, rotation_named, issue_named, revocation_named, pair_named, kind_effect, effect_named}
+use Rattle.ledger_answers.specs.declared.Found.{Found}
+use Rattle.ledger_answers.specs.Checks.{if_read, inception_named, rotation_named, issue_named, revocation_named}
+use Rattle.ledger_answers.specs.Readings.{behind_reading}
+use Rattle.ledger_stores.specs.Effects.{pair_named, named_effect, registry_found, row_found}
 
--- ---- a request that was read: the refusal is one of those that are checked before every fold, or the message is the one that was read
+-- ---- a request that was read: the message is the one that was read
 abbrev ReadFrom : List ℕ → Request → Type 0
-ReadFrom s (nothing r) = asked_answer true true (number_of r) ≡ Rejected r
+ReadFrom s (nothing r) = Unit {0}
 ReadFrom s (inception id m) = decode_of s ≡ decoded m
 ReadFrom s (rotation id m) = decode_of s ≡ decoded m
 ReadFrom s (issue k m) = decode_of s ≡ decoded m
 ReadFrom s (revocation k m) = decode_of s ≡ decoded m
 
 event-from : (s : List ℕ) (e : Event) (m : Message) → decode_of s ≡ decoded m → ReadFrom s (event_request e m)
-unfolding asked_answer first_of accept_if
 event-from s (vcp said issuer toad configs backers) m q = q
 event-from s (vrt said registry prior sn toad cuts additions) m q = q
 event-from s (iss said credential registry) m q = q
@@ -57,7 +66,7 @@ event-from s (bis said credential registry seal) m q = q
 event-from s (brv said credential prior seal) m q = go (pair_in seal credential)
   where
     go : (l : List Pair) → ReadFrom s (revocation_of l m)
-    go [] = refl
+    go [] = tt
     go (k ∷ l) = q
 
 request-from : (s : List ℕ) → decodes s ≡ true → ReadFrom s (request_of s)
@@ -86,89 +95,127 @@ module _ (s : List ℕ) (m : Message) (e : decode_of s ≡ decoded m) where
   unfolding C.ingest_of
   revocation-read g w h k = rw (h, k, e)
 
--- ---- the checks around a fold
-then-room : (a : Answer) (t : Bool) (e : Effect) → after_fold (first_of (a ∷ accept_if t NoRoom ∷ [])) e ≡ after_fold a (cond t e (refuse NoRoom))
-unfolding first_of accept_if
-then-room Accepted true e = refl
-then-room Accepted false e = refl
-then-room (Rejected r) t e = refl
+-- ---- states that were found, and that keep to their layouts
+abbrev plain : {X : Type 0} → Option X → M.Option X
+plain None = M.none
+plain (Some x) = M.some x
 
-alone : (a : Answer) (e : Effect) → after_fold (first_of (a ∷ [])) e ≡ after_fold a e
-unfolding first_of
-alone Accepted e = refl
-alone (Rejected r) e = refl
+abbrev held : Option RegistryState → M.Option Held
+held o = plain (option_map held_of o)
 
--- what a search found: the state at a place, where that is before the count
-abbrev pub found_at : {X : Type 0} → ℕ → ℕ → X → Option X
-found_at i m x = cond (ltb i m) (some x) none
+abbrev WellHeld : Option RegistryState → Type 0
+WellHeld None = Unit {0}
+WellHeld (Some g) = well_registry g ≡ true
 
--- the searches for what is named ended at i and j, before the counts where they found it, and g and w stand there
-pub record Found (l : Ledger) (q : Named) (i : ℕ) (g : RegistryState) (j : ℕ) (w : CredentialState) : Type 0 where
-  pub registry : registry_at l q.registry ≡ found_at i l.registry_count (held_of g)
-  pub row : row_at l (pair_named q) ≡ found_at j l.row_count w
+abbrev WellListed : Option CredentialState → Type 0
+WellListed None = Unit {0}
+WellListed (Some w) = well_credential w ≡ true
 
-module _ (s : List ℕ) (g : RegistryState) (w : CredentialState) where
+module _ (s : List ℕ) (m : Message) (e : decode_of s ≡ decoded m) where
   -- a vcp
-  inception-is : (m : Message) (n : ℕ) → decode_of s ≡ decoded m → (t : Bool) → inception_named s t n ≡ inception_effect m n (cond t (some (held_of g)) none)
-  unfolding inception_answer first_of accept_if
-  inception-is m n e true = refl
-  inception-is m n e false = rw (inception-read s m e) (then-room (N.incept_message m).answer (ltb n 16) (new_registry (N.incept_message m).state))
+  inception-is : (o : Option RegistryState) (n : ℕ) → inception_named s o n ≡ inception_effect m n (held o)
+  inception-is None n = ap (λ (x : N.Outcome). after_fold x.answer (with_room n 16 (new_registry x.state))) (inception-read s m e)
+  inception-is (Some g) n = refl
 
   -- a vrt
-  rotation-is : (id : Said) (m : Message) → decode_of s ≡ decoded m → (t : Bool) → (t ≡ true → well_registry g ≡ true) → rotation_named s id t g ≡ rotation_effect id m (cond t (some (held_of g)) none)
-  unfolding rotation_answer first_of accept_if
-  rotation-is id m e false h = refl
-  rotation-is id m e true h =
-      rw (rotation-read s m e g (h refl)) (alone (R.ingest_message (view_registry g) m).answer (set_registry id (R.ingest_message (view_registry g) m).state))
+  rotation-is : (id : Said) (o : Option RegistryState) → WellHeld o → rotation_named s id o ≡ rotation_effect id m (held o)
+  rotation-is id None h = refl
+  rotation-is id (Some g) h = ap (λ (x : N.Outcome). after_fold x.answer (set_registry id x.state)) (rotation-read s m e g h)
 
   -- an iss or bis
-  issue-is : (m : Message) (n : ℕ) → decode_of s ≡ decoded m → (t u : Bool) → (t ≡ true → well_registry g ≡ true) → issue_named s t g u n ≡ issue_effect m n (cond t (some (held_of g)) none) (cond u (some w) none)
-  unfolding issue_answer first_of accept_if
-  issue-is m n e false u h = refl
-  issue-is m n e true true h = refl
-  issue-is m n e true false h =
-      rw (issue-read s m e g (h refl)) (then-room (I.incept_message (view_registry g) m).answer (ltb n 256) (new_row (I.incept_message (view_registry g) m).state))
+  issue-is : (o : Option RegistryState) (r : Option CredentialState) (n : ℕ) → WellHeld o → issue_named s o r n ≡ issue_effect m n (held o) (plain r)
+  issue-is None r n h = refl
+  issue-is (Some g) (Some w) n h = refl
+  issue-is (Some g) None n h = ap (λ (x : I.Outcome). after_fold x.answer (with_room n 256 (new_row x.state))) (issue-read s m e g h)
 
   -- a rev or brv
-  revocation-is : (k : Pair) (m : Message) → decode_of s ≡ decoded m → (t u : Bool) → (t ≡ true → well_registry g ≡ true) → (u ≡ true → well_credential w ≡ true) → revocation_named s k t g u w ≡ revocation_effect k m (cond t (some (held_of g)) none) (cond u (some w) none)
-  unfolding revocation_answer first_of accept_if
-  revocation-is k m e false u h p = refl
-  revocation-is k m e true false h p = refl
-  revocation-is k m e true true h p =
-      rw (revocation-read s m e g w (h refl) (p refl)) (alone (C.ingest_message (view_registry g) w m).answer (set_row k (C.ingest_message (view_registry g) w m).state))
+  revocation-is : (k : Pair) (o : Option RegistryState) (r : Option CredentialState) → WellHeld o → WellListed r → revocation_named s k o r ≡ revocation_effect k m (held o) (plain r)
+  revocation-is k None r h p = refl
+  revocation-is k (Some g) None h p = refl
+  revocation-is k (Some g) (Some w) h p = ap (λ (x : I.Outcome). after_fold x.answer (set_row k x.state)) (revocation-read s m e g w h p)
 
--- what is found in a ledger that keeps the reading rules keeps to its layout
-module _ (l : Ledger) (k : Keeps l) (i j : ℕ) (g : RegistryState) (w : CredentialState) where
-  well-held : (id : Said) → registry_at l id ≡ found_at i l.registry_count (held_of g) → ltb i l.registry_count ≡ true → well_registry g ≡ true
-  well-held id e h = all-find id_of eq_said keeps_layout id l.registries (held_of g) k.layouts (e ∙ rw h)
+-- ---- what the searches found for what is named
+pub record Searched (l : Ledger) (q : Named) (f : Found RegistryState) (o : Found CredentialState) : Type 0 where
+  pub registry : held f.state ≡ registry_at l q.registry
+  pub registry_count : f.count ≡ l.registry_count
+  pub row : plain o.state ≡ row_at l (pair_named q)
+  pub row_count : o.count ≡ l.row_count
 
-  well-listed : (p : Pair) → row_at l p ≡ found_at j l.row_count w → ltb j l.row_count ≡ true → well_credential w ≡ true
-  well-listed p e h = all-find key_of eq_pair well_credential p l.rows w k.row-layouts (e ∙ rw h)
-
-  kind-is : (s : List ℕ) → decodes s ≡ true → (q : Request) → ReadFrom s q → Found l (named_of q) i g j w → effect_named true s (named_of q) i l.registry_count g j l.row_count w ≡ effect_of l q
-  unfolding effect_named kind_effect asked_answer first_of accept_if
-  kind-is s h (nothing r) e f = rw (h, e)
-  kind-is s h (inception id m) e f = rw (h, f.registry) (inception-is s g w m l.registry_count e (ltb i l.registry_count))
-  kind-is s h (rotation id m) e f = rw (h, f.registry) (rotation-is s g w id m e (ltb i l.registry_count) (well-held id f.registry))
-  kind-is s h (issue p m) e f =
-      rw (h, f.registry, f.row) (issue-is s g w m l.row_count e (ltb i l.registry_count) (ltb j l.row_count) (well-held p.registry f.registry))
-  kind-is s h (revocation p m) e f =
-      rw (h, f.registry, f.row)
-      (revocation-is s g w p m e (ltb i l.registry_count) (ltb j l.row_count) (well-held p.registry f.registry) (well-listed p f.row))
-
--- From what the event at its head names and what the searches found for that, an attempt comes to what it comes to in the ledger. Of a ledger that
--- breaks a reading rule nothing need be found.
-pub named-effect : (l : Ledger) (s : List ℕ) (i j : ℕ) (g : RegistryState) (w : CredentialState) → (sound l ≡ true → Found l (head_named s) i g j w) → effect_named (sound l) s (head_named s) i l.registry_count g j l.row_count w ≡ effect l (request_of s)
-unfolding effect effect_named asked_answer first_of accept_if
-named-effect l s i j g w f = go (sound l) refl
+-- an element by its place, or none past the end
+got : {X : Type 0} (l : List X) (p : ℕ) (d : X) → plain (slice_get l p) ≡ cond (ltb p (length l)) (M.some (get_or l p d)) M.none
+got {X} l p d = go (ltb p (length l)) refl
   where
-    read : (t : Bool) → decodes s ≡ t → Keeps l → Found l (head_named s) i g j w → effect_named true s (head_named s) i l.registry_count g j l.row_count w ≡ effect_of l (request_of s)
-    read true h k found =
-        let e = named-head s h in
-        ap (λ (q : Named). effect_named true s q i l.registry_count g j l.row_count w) (sym e)
-        ∙ kind-is l k i j g w s h (request_of s) (request-from s h) (subst (λ (q : Named). Found l q i g j w) (sym e) found)
-    read false h k found = rw (h, asks_nothing s h)
+    go : (t : Bool) → ltb p (length l) ≡ t → plain (slice_get l p) ≡ cond t (M.some (get_or l p d)) M.none
+    go true e = ap plain (slice_get-get_or l p d (ltb-true p (length l) e))
+    go false e = ap plain (slice_get_past l p (ltb-false p (length l) e))
 
-    go : (t : Bool) → sound l ≡ t → effect_named t s (head_named s) i l.registry_count g j l.row_count w ≡ cond t (effect_of l (request_of s)) (refuse Malformed)
-    go true h = read (decodes s) refl (parts l h) (f h)
-    go false h = refl
+pub searched : (gs : List RegistryState) (m : ℕ) (ws : List CredentialState) (n : ℕ) (q : Named) → Searched (lent_ledger gs m ws n) q (registry_found gs m q.registry) (row_found ws n q.registry q.credential)
+unfolding lent_ledger find_registry find_at
+searched gs m ws n q =
+    let g = map held_of (take m gs) in
+    let w = take n ws in
+    let p = place id_of eq_said no_held q.registry g in
+    let r = place key_of eq_pair no_credential (pair_named q) w in
+    record
+    { registry = ap plain (sym (slice_get-map held_of (take m gs) p)) ∙ got g p no_held ∙ sym (find-place id_of eq_said no_held q.registry g); registry_count = refl; row = got w r no_credential ∙ sym (find-place key_of eq_pair no_credential (pair_named q) w); row_count = refl }
+
+-- ---- what is found in a ledger that keeps the reading rules keeps to its layout
+module _ (l : Ledger) (k : Keeps l) where
+  well-held : (id : Said) (o : Option RegistryState) → held o ≡ registry_at l id → WellHeld o
+  well-held id None e = tt
+  well-held id (Some g) e = all-find id_of eq_said keeps_layout id l.registries (held_of g) k.layouts (sym e)
+
+  well-listed : (p : Pair) (r : Option CredentialState) → plain r ≡ row_at l p → WellListed r
+  well-listed p None e = tt
+  well-listed p (Some w) e = all-find key_of eq_pair well_credential p l.rows w k.row-layouts (sym e)
+
+  module _ (s : List ℕ) (f : Found RegistryState) (o : Found CredentialState) where
+    -- what is named comes to the effect, or is refused where nothing is named
+    abbrev ComesTo : Result Named RegistryRejection → Effect → Type 0
+    ComesTo (Ok q) e = Searched l q f o → named_effect s q f o ≡ e
+    ComesTo (Err r) e = refuse r ≡ e
+
+    request-comes : (q : Request) → ReadFrom s q → ComesTo (named_of q) (effect_of l q)
+    request-comes (nothing r) e = refl
+    request-comes (inception id m) e =
+        λ w. inception-is s m e f.state f.count ∙ (λ t. inception_effect m (w.registry_count t) (w.registry t))
+    request-comes (rotation id m) e =
+        λ w. rotation-is s m e id f.state (well-held id f.state w.registry) ∙ ap (rotation_effect id m) w.registry
+    request-comes (issue p m) e =
+        λ w. issue-is s m e f.state o.state o.count (well-held p.registry f.state w.registry) ∙ (λ t. issue_effect m (w.row_count t) (w.registry t) (w.row t))
+    request-comes (revocation p m) e =
+        λ w. revocation-is s m e p f.state o.state (well-held p.registry f.state w.registry) (well-listed p o.state w.row) ∙ (λ t. revocation_effect p m (w.registry t) (w.row t))
+
+    attempt-comes : decodes s ≡ true → ComesTo (head_named s) (effect_of l (request_of s))
+    attempt-comes h = subst (λ (q : Result Named RegistryRejection). ComesTo q (effect_of l (request_of s))) (named-head s h) (request-comes (request_of s) (request-from s h))
+
+-- From what the event at its head names and what the searches found for that, an attempt comes to what it comes to in a ledger that keeps the
+-- reading rules.
+module _ (l : Ledger) (s : List ℕ) (h : sound l ≡ true) where
+  in-ledger : (e : Effect) → e ≡ effect_of l (request_of s) → e ≡ effect l (request_of s)
+  unfolding effect
+  in-ledger e p = p ∙ ap (λ (t : Bool). cond t (effect_of l (request_of s)) (refuse Malformed)) (sym h)
+
+  -- bytes that are no attempt
+  unread : decodes s ≡ false → refuse Malformed ≡ effect_of l (request_of s)
+  unread e = ap (effect_of l) (sym (asks_nothing s e))
+
+  pub named-effect : (q : Named) (f : Found RegistryState) (o : Found CredentialState) → head_named s ≡ Ok q → Searched l q f o → if_read s (named_effect s q f o) ≡ effect l (request_of s)
+  named-effect q f o e w = in-ledger (if_read s (named_effect s q f o)) (go (decodes s) refl)
+    where
+      go : (t : Bool) → decodes s ≡ t → cond t (named_effect s q f o) (refuse Malformed) ≡ effect_of l (request_of s)
+      go true d = subst (λ (z : Result Named RegistryRejection). ComesTo l (parts l h) s f o z (effect_of l (request_of s))) e (attempt-comes l (parts l h) s f o d) w
+      go false d = unread d
+
+  pub unnamed-effect : (r : RegistryRejection) → head_named s ≡ Err r → refuse (behind_reading (decodes s) r) ≡ effect l (request_of s)
+  unnamed-effect r e = in-ledger (refuse (behind_reading (decodes s) r)) (go (decodes s) refl)
+    where
+      nowhere : Found RegistryState
+      nowhere = record { at = 0; count = 0; state = None }
+
+      no-row : Found CredentialState
+      no-row = record { at = 0; count = 0; state = None }
+
+      go : (t : Bool) → decodes s ≡ t → refuse (behind_reading t r) ≡ effect_of l (request_of s)
+      go true d = subst (λ (z : Result Named RegistryRejection). ComesTo l (parts l h) s nowhere no-row z (effect_of l (request_of s))) e (attempt-comes l (parts l h) s nowhere no-row d)
+      go false d = unread d

@@ -1,5 +1,6 @@
+pub mod Answered
 pub mod EffectLaws
 pub mod Fits
-pub mod LentStep
+pub mod Made
 pub mod Reached
-pub mod Stored
+pub mod Stepped

@@ -1,5 +1,7 @@
 -- What a call leaves of the slices that are lent to it (docs/RULES.md, "Ledger", "Next states").
-use Rattle.std.specs.Prelude.{ℕ, ◌+◌, ◌≡◌, List, set}
+use Rattle.std.specs.Prelude.{ℕ, ◌+◌, ◌≡◌, List, set, Result, Ok, Err}
+use Rattle.registry_error.specs.declared.RegistryRejection.{RegistryRejection}
+use Rattle.registry_error.specs.Errors.{Answer}
 use Rattle.registry_state.specs.declared.RegistryState.{RegistryState}
 use Rattle.registry_state_credential.specs.declared.CredentialState.{CredentialState}
 use Rattle.ledger_rows.specs.Ledgers.{held_of}
@@ -7,11 +9,8 @@ use Rattle.ledger_rows.specs.Steps.{Effect, held_now}
 use Rattle.ledger_rows.specs.Steps.Effect.{refuse, new_registry, set_registry, new_row, set_row}
 use Rattle.ledger_rows.specs.Rows.{find_at}
 use Rattle.ledger_registries.specs.Registries.{find_registry}
-use Rattle.ledger_stores.specs.declared.Next.{Next}
-use Rattle.ledger_stores.specs.declared.Applied.{Applied}
-
-abbrev pub applied_of : Next → Applied
-applied_of x = record { answer = x.answer; registry_count = x.registry_count; row_count = x.row_count }
+use Rattle.ledger_answers.specs.declared.Change.{Change}
+use Rattle.ledger_answers.specs.declared.Change.TheVariants.{Registry, Row}
 
 -- the two slices, whole, each with its count
 pub record Lent : Type 0 where
@@ -34,3 +33,14 @@ Stores (set_registry id g) a b =
 Stores (new_row w) a b = b ≡ lent a.registries a.registry_count (set a.rows a.row_count w) (a.row_count + 1)
 Stores (set_row k w) a b =
     b ≡ lent a.registries a.registry_count (set a.rows (find_at a.rows a.row_count k.registry k.credential) w) a.row_count
+
+-- the answer, where this change is made or it is refused
+abbrev pub answer_to : Result Change RegistryRejection → Answer
+answer_to (Ok c) = Ok tt
+answer_to (Err r) = Err r
+
+-- and what stands in the slices then
+abbrev pub lent_after : Result Change RegistryRejection → Lent → Lent
+lent_after (Err r) a = a
+lent_after (Ok (Registry at g count)) a = lent (set a.registries at g) count a.rows a.row_count
+lent_after (Ok (Row at w count)) a = lent a.registries a.registry_count (set a.rows at w) count

@@ -5,15 +5,14 @@
 --     written, unwritten             what a writer that tests for room leaves and answers
 --     example                        the lines of docs/RULES.md's example
 use Prim.Native.Nat.{ℕ, ◌+◌, ◌^◌, ◌≤◌, ◌<◌}
-use mathlib.Core.Path.{◌≡◌, refl, ap, ◌∙◌}
+use mathlib.Core.Path.{◌≡◌, refl, ap, sym, ◌∙◌}
 use mathlib.Core.Bool.{true, false}
 use mathlib.Core.List.{List, [], ◌∷◌, ◌++◌, append_assoc}
 use native.Mathlib.Nat.{zero-add}
 use native.Mathlib.Omega.{arith}
-use borrow.Author.Tests.{leb-true}
 use lib.Dec.{leb}
 use lib.ListN.{length, set, length-append}
-use lib.Seq.{sets, length-sets}
+use lib.Seq.{sets}
 use Rattle.laws.specs.Room.{put}
 use Rattle.laws.proofs.Room.{sets-append, stored, refused}
 use Rattle.ledger_text.specs.Lines.{decimal, decimal_in, line_bytes, registries_word, credentials_word, last_line, size_in}
@@ -77,15 +76,13 @@ last-put l registries credentials p q e f =
     ∙ ap (λ (bytes : List ℕ). sets l 0 bytes) t
 
 -- what a writer that tests for room leaves and answers
-pub written : (l bytes m : List ℕ) (n : ℕ) → length bytes ≡ n → leb (0 + n) (length l) ≡ true → m ≡ sets l 0 bytes → ((n ≡ size_in l bytes) × (m ≡ put l 0 bytes)) × (n ≤ length m)
+pub written : (l bytes m : List ℕ) (n : ℕ) → length bytes ≡ n → true ≡ leb (0 + n) (length l) → m ≡ sets l 0 bytes → (n ≡ size_in l bytes) × (m ≡ put l 0 bytes)
 unfolding size_in
-written l bytes m n e h f =
-    let s = stored l 0 n bytes m e h f in
-    ((rw (e, ← s.0), s.1), rw (f, length-sets) (omega (arith, leb-true (0 + n) (length l) h)))
+written l bytes m n e h f = let s = stored l 0 n bytes m e (sym h) f in (rw (e, ← s.0), s.1)
 
-pub unwritten : (l bytes : List ℕ) (n : ℕ) → length bytes ≡ n → leb (0 + n) (length l) ≡ false → ((0 ≡ size_in l bytes) × (l ≡ put l 0 bytes)) × (0 ≤ length l)
+pub unwritten : (l bytes : List ℕ) (n : ℕ) → length bytes ≡ n → false ≡ leb (0 + n) (length l) → (0 ≡ size_in l bytes) × (l ≡ put l 0 bytes)
 unfolding size_in
-unwritten l bytes n e h = let s = refused l 0 n bytes e h in ((rw (e, ← s.0), s.1), omega arith)
+unwritten l bytes n e h = let s = refused l 0 n bytes e (sym h) in (rw (e, ← s.0), s.1)
 
 -- `2 3 C`, and `registries 1 credentials 0`
 pub example : (line_bytes 2 3 67 ≡ 50 ∷ 32 ∷ 51 ∷ 32 ∷ 67 ∷ 10 ∷ []) × (last_line 1 0 ≡ registries_word ++ (32 ∷ 49 ∷ 32 ∷ credentials_word ++ (32 ∷ 48 ∷ 10 ∷ [])))

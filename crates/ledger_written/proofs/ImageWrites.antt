@@ -14,7 +14,7 @@ use borrow.Author.Tests.{leb-true, eqb-true}
 use borrow.Rule.Slice.PartMut.{mid_of, put_mid, mid_len}
 use lib.Dec.{leb}
 use lib.ListN.{length, take, length-append}
-use lib.Seq.{sets, length-sets, length-take-le}
+use lib.Seq.{sets, length-take-le}
 use Rattle.laws.specs.Room.{put}
 use Rattle.laws.proofs.Room.{put-sets, length-put, sets-append}
 use Rattle.registry_bytes.proofs.StateWrites.{part-stored}
@@ -24,7 +24,7 @@ use Rattle.registry_state_credential.specs.declared.CredentialState.{CredentialS
 use Rattle.registry_state.proofs.StateLoops.{length-registry}
 use Rattle.ledger_sections.specs.Ledgers.{Ledger, held_of, lent_ledger, sound}
 use Rattle.ledger_sections.proofs.Rules.{parts}
-use Rattle.ledger_sections.specs.Images.{state_of, states_of, ledger_bytes, image_bytes, registry_section, credential_section, registry_size, Written, written_of}
+use Rattle.ledger_sections.specs.Images.{state_of, states_of, ledger_bytes, image_bytes, registry_section, credential_section, registry_size, written_of}
 use Rattle.ledger_sections.proofs.ImageLength.{length-wide, length-image}
 use Rattle.ledger_sections.specs.RegistrySections.{section_of}
 use Rattle.ledger_sections.specs.RowImages.{written_rows}

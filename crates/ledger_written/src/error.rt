@@ -8,9 +8,6 @@ impl WriteError {
     pub fn number(self) -> u8
         ensures { result ≡ error_number self }
     {
-        match self {
-            WriteError::Malformed => 1,
-            WriteError::ShortBuffer => 30,
-        }
+        self as u8
     }
 }

@@ -7,6 +7,6 @@ pub mod error;
 // Why no image is written: the ledger breaks a reading rule, or the buffer is too short.
 #[derive(Clone, Copy, PartialEq, Eq)]
 pub enum WriteError {
-    Malformed,
-    ShortBuffer,
+    Malformed = 1,
+    ShortBuffer = 30,
 }

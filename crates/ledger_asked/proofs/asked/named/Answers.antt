@@ -2,27 +2,10 @@ use borrow.Author.Tests.{ne_eqb}
 use Rattle.ledger_asked.specs.Names.{head_named}
 use Rattle.ledger_asked.proofs.asked.named.Goals as goal
 
-pub returns-in-1 : goal.returns-in-1
-unfolding head_named
-returns-in-1 c =
-    rw (← c.read_u8-kind.ensures, c.in-1.is, c.about.ensures, c.read.ensures, c.none.ensures)
-
 pub returns-in-2 : goal.returns-in-2
 unfolding head_named
 returns-in-2 c =
     rw (← c.read_u8-kind.ensures, c.in-2.is, c.about-in-2.ensures, c.read-in-2.ensures, c.none.ensures)
-
-pub returns-in-3 : goal.returns-in-3
-unfolding head_named
-returns-in-3 c = rw (← c.read_u8-kind.ensures, c.in-3.is) c.named_at.ensures
-
-pub returns-in-4 : goal.returns-in-4
-unfolding head_named
-returns-in-4 c = rw (← c.read_u8-kind.ensures, c.in-4.is) c.named_at-in-4.ensures
-
-pub returns-in-5 : goal.returns-in-5
-unfolding head_named
-returns-in-5 c = rw (← c.read_u8-kind.ensures, c.in-5.is) c.named_at-in-5.ensures
 
 pub returns-in_default : goal.returns-in_default
 unfolding head_named

@@ -1,3 +1,5 @@
+use mathlib.Core.Path.{◌∙◌}
+use Rattle.cesr.proofs.Matters.{eq-fields}
 use Rattle.ledger_image_ids.specs.Pairs.{key_of}
 use Rattle.ledger_image_rows_check.specs.RowTests.{key_at}
 use Rattle.ledger_image_rows_check.proofs.RowChecks.{other_word}
@@ -10,4 +12,5 @@ returns-then-read_u64-w c =
 pub returns : goal.returns
 unfolding key_at
 returns c =
-    rw (c.same-2.ensures, c.read-2.ensures, c.same.ensures, c.read.ensures)
+    let w = c.args.w in
+    rw (c.eq-2.ensures ∙ eq-fields c.read-2.result w.credential.0, c.read-2.ensures, c.eq.ensures ∙ eq-fields c.read.result w.registry.0, c.read.ensures)

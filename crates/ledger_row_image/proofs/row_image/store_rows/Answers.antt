@@ -1,4 +1,4 @@
-use Rattle.std.proofs.Common.{◌∙◌, add-one, arith}
+use Rattle.std.proofs.Common.{◌∙◌, add-one}
 use Rattle.ledger_sections.proofs.RowTurns.{cursor-none, cursor-more, read_none, read_more}
 use Rattle.ledger_row_image.proofs.row_image.store_rows.Goals as goal
 

@@ -1,8 +1,10 @@
-use mathlib.Core.Path.{◌≡◌, refl, ap}
+use mathlib.Core.Path.{◌≡◌, refl, ap, ◌∙◌}
 use mathlib.Core.Bool.{Bool, ◌&&◌}
+use native.Mathlib.Omega.{arith}
 use lib.Dec.{ltb, leb-suc-suc}
 use Rattle.cesr_sn.specs.Numbers.{value}
 use Rattle.cesr_sn.specs.declared.Sn.{Sn}
+use Rattle.cesr_sn.proofs.Order.{less_value}
 use Rattle.registry_state_credential.specs.CredentialStates.{well_credential}
 use Rattle.registry_state_credential.specs.declared.CredentialState.{CredentialState}
 use Rattle.ledger_step.specs.Ledgers.{zero_or_one}
@@ -14,4 +16,6 @@ below_two w two e = rw e (ap (λ (t : Bool). well_credential w && t) (leb-suc-su
 
 pub returns : goal.returns
 unfolding value
-returns c = rw (c.less.ensures, c.well_formed-2.ensures) (below_two c.args.w (record { hi = 0; lo = 2 }) refl)
+returns c =
+    let two : Sn = record { hi = 0; lo = 2 } in
+    rw (c.lt.ensures ∙ less_value c.args.w.sn two (omega arith) (omega arith), c.well_formed-2.ensures) (below_two c.args.w two refl)

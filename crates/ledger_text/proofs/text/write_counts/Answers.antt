@@ -1,26 +1,17 @@
-use Prim.Native.Nat.{◌+◌}
-use mathlib.Core.Path.{◌≡◌, sym, ◌∙◌}
-use mathlib.Core.Bool.{true}
-use borrow.Author.Tests.{not-true, not-false}
-use lib.Dec.{leb}
-use lib.ListN.{length}
+use mathlib.Core.Path.{◌∙◌}
 use Rattle.ledger_text.specs.Lines.{last_line}
 use Rattle.ledger_text.proofs.LineLaws.{last-length, last-put, written, unwritten}
 use Rattle.ledger_text.proofs.text.write_counts.Goals as goal
 
-pub returns-then-not-has_room : goal.returns-then-not-has_room
-returns-then-not-has_room c =
+pub returns-then-not-has_room-clause-value : goal.returns-then-not-has_room-clause-value
+returns-then-not-has_room-clause-value c =
     let a = c.args in
-    let both = unwritten a.out.now (last_line a.registries a.credentials) _ (last-length _ _ _ _ c.places-p.ensures.value c.places-q.ensures.value) (sym c.has_room.ensures ∙ not-true _ c.if-not-has_room.true-raw) in record { value = both.0; upper_bound = both.1 }
+    unwritten a.out.now (last_line a.registries a.credentials) _ (last-length _ _ _ _ c.places-p.ensures.value c.places-q.ensures.value) c.if-not-has_room.ensures
 
-pub returns : goal.returns
-returns c =
-    let tested : (leb (0 + (c.places-p.result + c.places-q.result + 25)) (length c.args.out.now) ≡ true) =
-    sym c.has_room.ensures ∙ not-false _ c.if-not-has_room.false-raw in
+pub returns-clause-value : goal.returns-clause-value
+returns-clause-value c =
     let a = c.args in
-    let l = a.out.now in
     let p = c.places-p.ensures.value in
     let q = c.places-q.ensures.value in
-    let both = written l (last_line a.registries a.credentials) _ _ (last-length _ _ _ _ p q) (tested)
-    (c.put_number-2.ensures
-    ∙ rw (c.put_text-2.ensures, c.put_number.ensures, c.put_text.ensures) (last-put l a.registries a.credentials _ _ p q)) in record { value = both.0; upper_bound = both.1 }
+    written a.out.now (last_line a.registries a.credentials) _ _ (last-length _ _ _ _ p q) c.if-not-has_room.ensures
+    (c.put_number-2.ensures ∙ rw (c.put_text-2.ensures, c.put_number.ensures, c.put_text.ensures) (last-put _ a.registries a.credentials _ _ p q))

@@ -1,1 +1,0 @@
-// What an attempt asks, as it is handed on.
