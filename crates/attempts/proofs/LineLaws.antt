@@ -12,7 +12,7 @@ use native.Mathlib.Omega.{arith}
 use borrow.Author.Tests.{ltb-true}
 use lib.Dec.{ltb, leb}
 use Rattle.registry_error.specs.Errors.{answer_number, answer_letter}
-use Rattle.registry_error.specs.declared.Answer.{Answer}
+use Rattle.registry_error.specs.Errors.{Answer}
 use Rattle.ledger_step.specs.Ledgers.{Ledger, lent_ledger}
 use Rattle.ledger_step.specs.Steps.{step_of}
 use Rattle.ledger_table.specs.declared.Ledger as Value

@@ -11,12 +11,13 @@ use ledger_table::Ledger;
 use ledger_text::text::write_line;
 use registry_error::Answer;
 
+// An acceptance is 0. A Result has no numbers of its own, so none is derived.
 fn number(answer: Answer) -> u8
     ensures { result ≡ answer_number answer }
 {
     match answer {
-        Answer::Accepted => 0,
-        Answer::Rejected(r) => r.number(),
+        Ok(()) => 0,
+        Err(r) => r.number(),
     }
 }
 
@@ -24,8 +25,8 @@ fn letter(answer: Answer) -> u8
     ensures { result ≡ answer_letter answer }
 {
     match answer {
-        Answer::Accepted => b'A',
-        Answer::Rejected(r) => {
+        Ok(()) => b'A',
+        Err(r) => {
             let d = r.disposition();
             d.letter()
         }
@@ -52,9 +53,8 @@ pub(crate) fn answer_attempt(
     ensures within { result.size ≤ length out.new }
     ensures short { length (line_of (view_ledger ledger) position attempt.now) ≤ 27 }
 {
-    let applied = apply(ledger, attempt);
-    let answer = applied.answer;
-    let next = applied.ledger;
+    let mut next = ledger;
+    let answer = apply(&mut next, attempt);
     let size = write_line(out, position, number(answer), letter(answer));
     Answered { size, ledger: next }
 }

@@ -70,6 +70,7 @@ fn print_attempt<W: Write>(
     Ok(answered.ledger)
 }
 
+// What is held at the end are counts, up to 16 registries and 256 credentials.
 fn print_last<W: Write>(
     writer: &mut W,
     broken: bool,

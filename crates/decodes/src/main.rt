@@ -2,8 +2,8 @@
 // expected. A record is a byte, 0 for well-formed or 1 for malformed, a byte for its group, two bytes for a length, and as many bytes.
 #![tactic(auto)]
 
-ghost use Rattle.std.specs.Prelude.{◌≡◌};
-ghost use Rattle.decodes.specs.Counting.{place_of};
+ghost use Rattle.std.specs.Prelude.{◌≡◌, ◌≤◌};
+ghost use Rattle.decodes.specs.Counting.{group_place, place_of};
 ghost use Rattle.decodes.specs.Judgement.{judge_of};
 
 use reading::{Next, read_full, read_part};
@@ -20,32 +20,75 @@ struct Finding {
     agrees: bool,
 }
 
+// What an attempt was made for.
+#[derive(Clone, Copy)]
+enum Group {
+    Other,
+    Vectors,
+    Cut,
+    Long,
+    Limits,
+    Letters,
+    Ranges,
+}
+
 // An attempt's group, and what is found of it.
 #[derive(Clone, Copy)]
 struct Judged {
-    group: u8,
+    group: Group,
     finding: Finding,
 }
 
 // Of each group how many attempts there were, how many malformed, and how many as expected.
 type Groups = Tally<2, 7>;
 
+// What is expected is the record's byte, and no bool: one that is neither 0 nor 1 is right of no attempt.
 #[tactic(auto, unfolding(crate::specs::Judgement::judge_of))]
 fn judge(expected: u8, attempt: &[u8]) -> Finding
     ensures { result ≡ judge_of expected attempt.now }
 {
-    let ok = Attempt::decode(attempt).ok;
+    let ok = Attempt::decode(attempt).is_some();
     Finding {
         malformed: !ok,
         agrees: (ok & (expected == 0)) | (!ok & (expected == 1)),
     }
 }
 
-// The groups 1 to 6 are counted at their numbers, and any other at 0.
-fn place(group: u8) -> usize
-    ensures { result ≡ place_of group }
-{
-    if group <= 6 { usize::from(group) } else { 0 }
+impl Group {
+    // The groups of the bytes 1 to 6. Any other byte is no group's.
+    fn of_byte(byte: u8) -> Group
+        ensures { group_place result ≡ place_of byte }
+    {
+        match byte {
+            1 => Group::Vectors,
+            2 => Group::Cut,
+            3 => Group::Long,
+            4 => Group::Limits,
+            5 => Group::Letters,
+            6 => Group::Ranges,
+            _ => Group::Other,
+        }
+    }
+
+    // Where it is counted.
+    fn place(self) -> usize
+        ensures value { result ≡ group_place self }
+        ensures upper_bound { result ≤ 6 }
+    {
+        self as usize
+    }
+
+    fn name(self) -> &'static str {
+        match self {
+            Group::Other => "other",
+            Group::Vectors => "vectors",
+            Group::Cut => "cut",
+            Group::Long => "long",
+            Group::Limits => "limits",
+            Group::Letters => "letters",
+            Group::Ranges => "ranges",
+        }
+    }
 }
 
 fn next_record(reader: &mut impl Read, buffer: &mut [u8]) -> io::Result<Next<Judged>> {
@@ -62,7 +105,7 @@ fn next_record(reader: &mut impl Read, buffer: &mut [u8]) -> io::Result<Next<Jud
         return Ok(Next::Broken);
     }
     Ok(Next::Record(Judged {
-        group,
+        group: Group::of_byte(group),
         finding: judge(expected, attempt),
     }))
 }
@@ -84,7 +127,7 @@ fn run(rt: &impl Print, reader: &mut impl Read, groups: &mut Groups) -> io::Resu
     for _ in 0..u64::MAX {
         match next_record(reader, &mut buffer)? {
             Next::Record(Judged { group, finding }) => {
-                groups.count(place(group), [finding.malformed, finding.agrees]);
+                groups.count(group.place(), [finding.malformed, finding.agrees]);
                 print_mark(rt, finding.malformed, groups.total.all)?;
             }
             Next::End => return Ok(true),
@@ -107,13 +150,20 @@ fn main(rt: HostRuntime) -> io::Result<()> {
     let mut groups = Groups::empty();
     let whole = run(&rt, &mut rt.stdin(), &mut groups)?;
     println!(rt)?;
-    let names = ["vectors", "cut", "long", "limits", "letters", "ranges"];
-    for (name, count) in names.iter().zip(&groups.places[1..]) {
-        print_count(&rt, name, *count)?;
+    let named = [
+        Group::Vectors,
+        Group::Cut,
+        Group::Long,
+        Group::Limits,
+        Group::Letters,
+        Group::Ranges,
+    ];
+    for group in &named {
+        print_count(&rt, group.name(), groups.places[group.place()])?;
     }
-    let other = groups.places[0];
+    let other = groups.places[Group::Other.place()];
     if 0 < other.all {
-        print_count(&rt, "other", other)?;
+        print_count(&rt, Group::Other.name(), other)?;
     }
     print_count(&rt, "total", groups.total)?;
     if !whole {

@@ -18,7 +18,8 @@ use std::io;
 use std::io::Read;
 use tally::{Count, Tally};
 
-// A case: the number that is expected, the Rust's own, and what is found.
+// A case: the number that is expected, the Rust's own, and what is found. Both numbers are the record's bytes: they are compared with each
+// other and counted, and a byte that is no answer's number is counted too.
 #[derive(Clone, Copy)]
 struct Case {
     number: u8,

@@ -1,15 +1,15 @@
 // Cases of the folds of a credential.
-ghost use Rattle.std.specs.Prelude.{◌≡◌, cond};
+ghost use Rattle.std.specs.Prelude.{◌≡◌};
 ghost use Rattle.laws.specs.Words.{same_list};
 ghost use Rattle.registry_state_credential.specs.CredentialStates.{credential_bytes};
-ghost use Rattle.registry_answer.specs.Answers.{accepts};
-ghost use Rattle.folds_judge.specs.Judgement.{judge_issue, judge_revoke};
+ghost use Rattle.registry_state_credential.specs.declared.CredentialState.{CredentialState};
+ghost use Rattle.registry_issue.specs.IssueFolds.{view_outcome};
+ghost use Rattle.folds_judge.specs.Judgement.{parts, credential_agrees, judge_issue, judge_revoke};
 
-use crate::Finding;
-use crate::part::{read_credential, read_registry, same, same_report, unread};
-use registry_answer::answer::accepts;
+use crate::part::{read_credential, read_registry, same_report, unread};
+use crate::{Case, Finding};
 use registry_credential_state::credential_state::ingest;
-use registry_issue::CredentialOutcome;
+use registry_error::RegistryRejection;
 use registry_issue::credential_state::incept;
 use registry_state_credential::CredentialState;
 
@@ -18,51 +18,43 @@ fn same_credential(w: CredentialState, bytes: &[u8]) -> bool
 {
     let mut out = [0u8; 115];
     w.write(&mut out, 0);
-    same(&out, bytes)
+    &out[..] == bytes
 }
 
-fn credential_agrees(o: CredentialOutcome, next: &[u8], held: &[u8]) -> bool
-    ensures { result ≡ same_list (credential_bytes o.state) (cond (accepts o.answer) next.now held.now) }
+// The answer is the expected one, and the state behind it the next one. A refusal leaves none: the state that was handed in stays.
+fn credential_agrees(outcome: Result<CredentialState, RegistryRejection>, case: &Case) -> Finding
+    ensures { (w : CredentialState) → result ≡ credential_agrees case.now.expected.now case.now.next.now (credential_bytes w) (view_outcome w outcome) }
 {
-    let answer = o.answer;
-    if accepts(answer) {
-        return same_credential(o.state, next);
+    match outcome {
+        Ok(w) => {
+            let told = same_report(Ok(()), case.expected);
+            let agrees = told & same_credential(w, case.next);
+            Finding { agrees, read: true }
+        }
+        Err(refusal) => {
+            let agrees = same_report(Err(refusal), case.expected);
+            Finding { agrees, read: true }
+        }
     }
-    same_credential(o.state, held)
 }
 
-pub(crate) fn judge_issue(expected: &[u8], next: &[u8], registry: &[u8], attempt: &[u8]) -> Finding
-    ensures { result ≡ judge_issue expected.now next.now registry.now attempt.now }
+pub(crate) fn judge_issue(case: &Case) -> Finding
+    ensures { result ≡ judge_issue (parts case.now) }
 {
-    let blank = [0u8; 115];
-    let g = read_registry(registry);
-    if !g.ok {
-        return unread(expected);
+    match read_registry(case.registry) {
+        Some(g) => credential_agrees(incept(g, case.input), case),
+        None => unread(case.expected),
     }
-    let o = incept(g.value, attempt);
-    let answer = o.answer;
-    let told = same_report(answer, expected);
-    let agrees = told & credential_agrees(o, next, &blank);
-    Finding { agrees, read: true }
 }
 
-pub(crate) fn judge_revoke(
-    expected: &[u8],
-    next: &[u8],
-    registry: &[u8],
-    held: &[u8],
-    attempt: &[u8],
-) -> Finding
-    ensures { result ≡ judge_revoke expected.now next.now registry.now held.now attempt.now }
+pub(crate) fn judge_revoke(case: &Case) -> Finding
+    ensures { result ≡ judge_revoke (parts case.now) }
 {
-    let g = read_registry(registry);
-    let w = read_credential(held);
-    if !(g.ok & w.ok) {
-        return unread(expected);
-    }
-    let o = ingest(g.value, w.value, attempt);
-    let answer = o.answer;
-    let told = same_report(answer, expected);
-    let agrees = told & credential_agrees(o, next, held);
-    Finding { agrees, read: true }
+    let Some(g) = read_registry(case.registry) else {
+        return unread(case.expected);
+    };
+    let Some(w) = read_credential(case.credential) else {
+        return unread(case.expected);
+    };
+    credential_agrees(ingest(g, w, case.input), case)
 }

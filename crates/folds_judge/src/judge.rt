@@ -1,53 +1,48 @@
 // A record's call is made again, and what comes out is held against what the record says.
 ghost use Rattle.std.specs.Prelude.{◌≡◌};
-ghost use Rattle.folds_judge.specs.Judgement.{judge_status, judge_call, size_of, judge_of};
+ghost use Rattle.folds_judge.specs.Judgement.{parts, judge_status, call_of, judge_call, size_of, parts_of, judge_of};
 
-use crate::Finding;
 use crate::credential_case::{judge_issue, judge_revoke};
-use crate::part::same;
 use crate::registry_case::{judge_incept, judge_rotate};
+use crate::{Call, Case, Finding};
 use cesr_number::number::{read_u8, read_u16};
 use host_status::status_calls::status;
 use registry_wire::Part;
 
-fn judge_status(expected: &[u8], input: &[u8]) -> Finding
-    ensures { result ≡ judge_status expected.now input.now }
+fn judge_status(case: &Case) -> Finding
+    ensures { result ≡ judge_status (parts case.now) }
 {
     let mut report = [0u8; 36];
-    status(input, &mut report);
-    let agrees = same(&report, expected);
+    status(case.input, &mut report);
+    let agrees = &report[..] == case.expected;
     Finding { agrees, read: true }
 }
 
-// 1 to 4 are the folds of vcp, vrt, iss and bis, rev and brv; 5 is `status`. Any other byte is no call, and nothing agrees with it.
-fn judge_call(
-    call: u8,
-    expected: &[u8],
-    next: &[u8],
-    registry: &[u8],
-    credential: &[u8],
-    input: &[u8],
-) -> Finding
-    ensures { result ≡ judge_call call expected.now next.now registry.now credential.now input.now }
+impl Call {
+    #[tactic(auto, unfolding(crate::specs::Judgement::call_of))]
+    fn of_byte(byte: u8) -> Option<Call>
+        ensures { result ≡ call_of byte }
+    {
+        match byte {
+            1 => Some(Call::Inception),
+            2 => Some(Call::Rotation),
+            3 => Some(Call::Issue),
+            4 => Some(Call::Revocation),
+            5 => Some(Call::Status),
+            _ => None,
+        }
+    }
+}
+
+fn judge_call(call: Call, case: &Case) -> Finding
+    ensures { result ≡ judge_call call (parts case.now) }
 {
-    if call == 1 {
-        return judge_incept(expected, next, input);
-    }
-    if call == 2 {
-        return judge_rotate(expected, next, registry, input);
-    }
-    if call == 3 {
-        return judge_issue(expected, next, registry, input);
-    }
-    if call == 4 {
-        return judge_revoke(expected, next, registry, credential, input);
-    }
-    if call == 5 {
-        return judge_status(expected, input);
-    }
-    Finding {
-        agrees: false,
-        read: false,
+    match call {
+        Call::Inception => judge_incept(case),
+        Call::Rotation => judge_rotate(case),
+        Call::Issue => judge_issue(case),
+        Call::Revocation => judge_revoke(case),
+        Call::Status => judge_status(case),
     }
 }
 
@@ -60,8 +55,8 @@ pub fn body_size(first: &[u8]) -> usize
 }
 
 // The parts of a record: what is expected stands in its first 46 bytes, with the lengths of the four parts of its body.
-pub fn judge_record(first: &[u8], body: &[u8]) -> Finding
-    ensures { result ≡ judge_of first.now body.now }
+fn case_of<'a>(first: &'a [u8], body: &'a [u8]) -> Case<'a>
+    ensures { parts result ≡ parts_of first.now body.now }
 {
     let head = Part { from: 2, to: 38 };
     let a = read_u16(first, 38) as usize;
@@ -72,12 +67,24 @@ pub fn judge_record(first: &[u8], body: &[u8]) -> Finding
     let registry = Part { from: a, to: b };
     let credential = Part { from: b, to: c };
     let input = Part { from: c, to: d };
-    judge_call(
-        read_u8(first, 0),
-        head.bytes(first),
-        next.bytes(body),
-        registry.bytes(body),
-        credential.bytes(body),
-        input.bytes(body),
-    )
+    Case {
+        expected: head.bytes(first),
+        next: next.bytes(body),
+        registry: registry.bytes(body),
+        credential: credential.bytes(body),
+        input: input.bytes(body),
+    }
+}
+
+// A byte that is no call's agrees with nothing.
+pub fn judge_record(first: &[u8], body: &[u8]) -> Finding
+    ensures { result ≡ judge_of first.now body.now }
+{
+    match Call::of_byte(read_u8(first, 0)) {
+        Some(call) => judge_call(call, &case_of(first, body)),
+        None => Finding {
+            agrees: false,
+            read: false,
+        },
+    }
 }

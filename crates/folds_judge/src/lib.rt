@@ -3,11 +3,8 @@
 
 mod credential_case;
 pub mod judge;
-pub mod part;
+mod part;
 mod registry_case;
-
-use registry_state::RegistryState;
-use registry_state_credential::CredentialState;
 
 // What is found of a case.
 #[derive(Clone, Copy)]
@@ -17,15 +14,26 @@ pub struct Finding {
     pub read: bool,
 }
 
-// A state in a record, and whether its bytes are such a state and nothing else.
+// The folds of vcp, vrt, iss and bis, rev and brv, and `status`.
 #[derive(Clone, Copy)]
-pub struct RegistryPart {
-    pub ok: bool,
-    pub value: RegistryState,
+enum Call {
+    Inception,
+    Rotation,
+    Issue,
+    Revocation,
+    Status,
 }
 
+// The parts of a record, in its bytes.
 #[derive(Clone, Copy)]
-pub struct CredentialPart {
-    pub ok: bool,
-    pub value: CredentialState,
+struct Case<'a> {
+    // The report of the answer.
+    expected: &'a [u8],
+    // The state behind an accepted call.
+    next: &'a [u8],
+    // The states that are handed in.
+    registry: &'a [u8],
+    credential: &'a [u8],
+    // The attempt, or the input of `status`.
+    input: &'a [u8],
 }

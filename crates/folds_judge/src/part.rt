@@ -1,22 +1,17 @@
 // What a record has: the states that are handed in, and what is found of the case.
-ghost use Rattle.std.specs.Prelude.{◌≡◌};
+ghost use Rattle.std.specs.Prelude.{◌≡◌, true, option_map, IfSome};
 ghost use Rattle.laws.specs.Words.{same_list};
-ghost use Rattle.registry_state.specs.States.{view_registry, well_registry};
+ghost use Rattle.registry_state.specs.States.{view_registry, registry_bytes, well_registry};
+ghost use Rattle.registry_state_credential.specs.CredentialStates.{credential_bytes, well_credential};
 ghost use Rattle.host_report.specs.Reports.{answer_report};
-ghost use Rattle.folds_judge.specs.Judgement.{registry_in, credential_in, view_registry_part, view_credential_part, well_view, unread};
+ghost use Rattle.folds_judge.specs.Judgement.{whole, registry_in, credential_in, unread};
 
-use crate::{CredentialPart, Finding, RegistryPart};
-use codec_cursor::Cursor;
+use crate::Finding;
+use codec_cursor::{Cursor, Read};
 use host_report::report::report_answer;
 use registry_error::{Answer, RegistryRejection};
 use registry_state::RegistryState;
 use registry_state_credential::CredentialState;
-
-pub(crate) fn same(a: &[u8], b: &[u8]) -> bool
-    ensures { result ≡ same_list a.now b.now }
-{
-    a == b
-}
 
 // Whether a record's 36 bytes are the report of an answer.
 pub(crate) fn same_report(answer: Answer, expected: &[u8]) -> bool
@@ -24,34 +19,39 @@ pub(crate) fn same_report(answer: Answer, expected: &[u8]) -> bool
 {
     let mut report = [0u8; 36];
     report_answer(answer, &mut report);
-    same(&report, expected)
+    &report[..] == expected
 }
 
-// Its counts are within the limits, so that its bytes alone tell what it is.
-pub(crate) fn read_registry(s: &[u8]) -> RegistryPart
-    ensures view { view_registry_part result ≡ registry_in s.now }
-    ensures well { well_registry result.value ≡ well_view (view_registry result.value) }
+// What was read, where it is all of the bytes.
+fn whole<T: Copy>(r: Read<T>, s: &[u8]) -> Option<T>
+    ensures { result ≡ whole s.now r }
 {
-    let r = RegistryState::read(Cursor::start(), s);
-    let ok = r.next.ok & (r.next.at == s.len());
-    let value = r.value;
-    RegistryPart { ok, value }
+    let all = r.next.ok & (r.next.at == s.len());
+    all.then_some(r.value)
 }
 
-pub(crate) fn read_credential(s: &[u8]) -> CredentialPart
-    ensures { view_credential_part result ≡ credential_in s.now }
+// A state that is read is well formed, and its bytes tell all of it.
+pub(crate) fn read_registry(s: &[u8]) -> Option<RegistryState>
+    ensures view { option_map view_registry result ≡ registry_in s.now }
+    ensures well { IfSome result (λ g. well_registry g ≡ true) }
+    ensures bytes { IfSome result (λ g. registry_bytes (view_registry g) ≡ s.now) }
 {
-    let r = CredentialState::read(Cursor::start(), s);
-    let ok = r.next.ok & (r.next.at == s.len());
-    let value = r.value;
-    CredentialPart { ok, value }
+    whole(RegistryState::read(Cursor::start(), s), s)
+}
+
+pub(crate) fn read_credential(s: &[u8]) -> Option<CredentialState>
+    ensures view { result ≡ credential_in s.now }
+    ensures well { IfSome result (λ w. well_credential w ≡ true) }
+    ensures bytes { IfSome result (λ w. credential_bytes w ≡ s.now) }
+{
+    whole(CredentialState::read(Cursor::start(), s), s)
 }
 
 // A state that is no state can't be handed in as a value, so its reader's verdict is the answer: 1.
 pub(crate) fn unread(expected: &[u8]) -> Finding
     ensures { result ≡ unread expected.now }
 {
-    let agrees = same_report(Answer::Rejected(RegistryRejection::Malformed), expected);
+    let agrees = same_report(Err(RegistryRejection::Malformed), expected);
     Finding {
         agrees,
         read: false,

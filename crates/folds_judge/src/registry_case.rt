@@ -1,15 +1,14 @@
 // Cases of the folds of a registry.
-ghost use Rattle.std.specs.Prelude.{◌≡◌, cond};
+ghost use Rattle.std.specs.Prelude.{◌≡◌};
 ghost use Rattle.laws.specs.Words.{same_list};
-ghost use Rattle.registry_state.specs.States.{view_registry, registry_bytes};
-ghost use Rattle.registry_answer.specs.Answers.{accepts};
-ghost use Rattle.folds_judge.specs.Judgement.{judge_incept, judge_rotate};
+ghost use Rattle.registry_state.specs.States.{Registry, view_registry, registry_bytes};
+ghost use Rattle.registry_inception.specs.InceptionFolds.{view_outcome};
+ghost use Rattle.folds_judge.specs.Judgement.{parts, registry_agrees, judge_incept, judge_rotate};
 
-use crate::Finding;
-use crate::part::{read_registry, same, same_report, unread};
+use crate::part::{read_registry, same_report, unread};
+use crate::{Case, Finding};
 use registry::registry::ingest;
-use registry_answer::answer::accepts;
-use registry_inception::RegistryOutcome;
+use registry_error::RegistryRejection;
 use registry_inception::registry::incept_with_evidence;
 use registry_state::RegistryState;
 
@@ -20,42 +19,37 @@ fn same_registry(g: RegistryState, bytes: &[u8]) -> bool
     let mut out = [0u8; 657];
     let n = g.size();
     g.write(&mut out, 0);
-    same(&out[..n], bytes)
+    &out[..n] == bytes
 }
 
-// The state is the next one, or after a refusal the one that was handed in.
-fn registry_agrees(o: RegistryOutcome, next: &[u8], held: &[u8]) -> bool
-    ensures { result ≡ same_list (registry_bytes (view_registry o.state)) (cond (accepts o.answer) next.now held.now) }
+// The answer is the expected one, and the state behind it the next one. A refusal leaves none: the state that was handed in stays.
+fn registry_agrees(outcome: Result<RegistryState, RegistryRejection>, case: &Case) -> Finding
+    ensures { (g : Registry) → result ≡ registry_agrees case.now.expected.now case.now.next.now (registry_bytes g) (view_outcome g outcome) }
 {
-    let answer = o.answer;
-    if accepts(answer) {
-        return same_registry(o.state, next);
+    match outcome {
+        Ok(g) => {
+            let told = same_report(Ok(()), case.expected);
+            let agrees = told & same_registry(g, case.next);
+            Finding { agrees, read: true }
+        }
+        Err(refusal) => {
+            let agrees = same_report(Err(refusal), case.expected);
+            Finding { agrees, read: true }
+        }
     }
-    same_registry(o.state, held)
 }
 
-// Where no state is handed in, the one behind a refusal is blank.
-pub(crate) fn judge_incept(expected: &[u8], next: &[u8], attempt: &[u8]) -> Finding
-    ensures { result ≡ judge_incept expected.now next.now attempt.now }
+pub(crate) fn judge_incept(case: &Case) -> Finding
+    ensures { result ≡ judge_incept (parts case.now) }
 {
-    let blank = [0u8; 121];
-    let o = incept_with_evidence(attempt);
-    let answer = o.answer;
-    let told = same_report(answer, expected);
-    let agrees = told & registry_agrees(o, next, &blank);
-    Finding { agrees, read: true }
+    registry_agrees(incept_with_evidence(case.input), case)
 }
 
-pub(crate) fn judge_rotate(expected: &[u8], next: &[u8], held: &[u8], attempt: &[u8]) -> Finding
-    ensures { result ≡ judge_rotate expected.now next.now held.now attempt.now }
+pub(crate) fn judge_rotate(case: &Case) -> Finding
+    ensures { result ≡ judge_rotate (parts case.now) }
 {
-    let g = read_registry(held);
-    if !g.ok {
-        return unread(expected);
+    match read_registry(case.registry) {
+        Some(g) => registry_agrees(ingest(g, case.input), case),
+        None => unread(case.expected),
     }
-    let o = ingest(g.value, attempt);
-    let answer = o.answer;
-    let told = same_report(answer, expected);
-    let agrees = told & registry_agrees(o, next, held);
-    Finding { agrees, read: true }
 }

@@ -17,19 +17,17 @@ use Rattle.registry_state.specs.States.{Registry, read_registry}
 use Rattle.registry_state_credential.specs.declared.CredentialState.{CredentialState}
 use Rattle.registry_issue.specs.IssueFolds as I
 use Rattle.registry_credential_state.specs.CredentialFolds as W
-use Rattle.cesr.specs.Primitives.{said_at}
 use Rattle.events_tel.specs.TelEvents.{sn_zero, sn_one}
 use Rattle.registry_state_credential.specs.CredentialStates.{credential_at}
 use Rattle.registry_state_credential.specs.declared.CredentialAt.{CredentialAt}
 use Rattle.registry_state_credential.proofs.CodesCredential.{credential-head}
-use Rattle.registry_error.specs.declared.Answer.{Answer}
-use Rattle.registry_error.specs.declared.Answer.TheVariants.{Accepted}
-use Rattle.registry_answer.specs.Answers.{accepts}
+use Rattle.registry_wire.specs.Attempts.{decode_of}
+use Rattle.registry_backing.specs.Backings.{own_among}
+use Rattle.std.proofs.Common.{Ok}
 use Rattle.registry_issue.specs.declared.Issue.{Issue}
-use Rattle.registry_credential_state.specs.CredentialParts.{revocation_answer, revocation_at}
+use Rattle.registry_credential_state.specs.CredentialParts.{left_of, revoked_at, revocation_at}
 use Rattle.registry_credential_state.specs.declared.Revocation.{Revocation}
 use Rattle.host_next.specs.ByteFolds.{registry_in, credential_folded, credential_copied, no_state}
-use Rattle.host_next.proofs.Calls.{is-accepted}
 use Rattle.host_credential.specs.CredentialByteFolds.{credential_in, credential_incept, ingest_credential, credential_ingest}
 
 -- bytes that the code finds to be no registry state, and ones that it finds to be one
@@ -43,23 +41,23 @@ module _ (s : List ℕ) (c : Cursor) (t : Bool) (b : c ≡ starting) (r : Read R
   registry-some h = rw (← b, ← e, ← f, h)
 
 module _ (s attempt : List ℕ) (g : Registry) (r : registry_in s ≡ some g) where
-  pub issue : (o : I.Outcome) → o ≡ I.incept_if true g attempt → credential_folded o ≡ credential_incept s attempt
+  pub issue : (o : I.Outcome) → o ≡ I.incept_decoded g (decode_of attempt) → credential_folded o ≡ credential_incept s attempt
   unfolding credential_incept
   issue o e = rw (r, e)
 
-  pub revocation : (k : List ℕ) (w : CredentialState) → credential_in k ≡ some w → (o : I.Outcome) → o ≡ W.ingest_if true g w attempt → credential_folded o ≡ credential_ingest s k attempt
+  pub revocation : (k : List ℕ) (w : CredentialState) → credential_in k ≡ some w → (o : I.Outcome) → o ≡ W.ingest_decoded g w (decode_of attempt) → credential_folded o ≡ credential_ingest s k attempt
   unfolding credential_ingest
   revocation k w q o e = rw (r, q, e)
 
--- what an accepted fold leaves, copied from where it stands; x is its answer
-module _ (g : Registry) (s : List ℕ) (x : Answer) (h : accepts x ≡ true) where
-  pub issue-copied : (o : Issue) → x ≡ I.issue_answer g s o → credential_copied s o.registry o.credential sn_zero s o.said ≡ credential_folded (I.issue_at g s o)
+-- what an accepted fold leaves, copied from where it stands
+module _ (g : Registry) (s : List ℕ) where
+  pub issue-copied : (o : Issue) → Ok tt ≡ own_among g.toad g.backers s o.own → credential_copied s s (record { first = o.registry; second = o.credential; sn = sn_zero; last = o.said }) ≡ credential_folded (I.issue_at g s (Ok o))
   issue-copied o e =
-      rw (← e, ← is-accepted x h) (ap (λ (b : List ℕ). record { answer = Accepted; bytes = b }) (sym (credential-head (record { registry = said_at s o.registry; credential = said_at s o.credential; sn = sn_zero; head = said_at s o.said }))))
+      rw (← e) (ap (λ (b : List ℕ). record { answer = (Ok tt); bytes = b }) (sym (credential-head (I.issued_at s o))))
 
-  pub revocation-copied : (k : List ℕ) (w : CredentialAt) (o : Revocation) → x ≡ revocation_answer g.toad g.backers (credential_at k w) s o → credential_copied k w.registry w.credential sn_one s o.said ≡ credential_folded (revocation_at g (credential_at k w) s o)
+  pub revocation-copied : (k : List ℕ) (w : CredentialAt) (o : Revocation) → Ok tt ≡ left_of g.toad g.backers (credential_at k w) s o → credential_copied k s (record { first = w.registry; second = w.credential; sn = sn_one; last = o.said }) ≡ credential_folded (revocation_at g (credential_at k w) s (Ok o))
   revocation-copied k w o e =
-      rw (← e, ← is-accepted x h) (ap (λ (b : List ℕ). record { answer = Accepted; bytes = b }) (sym (credential-head (record { registry = said_at k w.registry; credential = said_at k w.credential; sn = sn_one; head = said_at s o.said }))))
+      rw (← e) (ap (λ (b : List ℕ). record { answer = (Ok tt); bytes = b }) (sym (credential-head (revoked_at (credential_at k w) s o))))
 
 pub revocation-none : (s k attempt : List ℕ) (x y : Bool) → (x ≡ false → registry_in s ≡ none) → (y ≡ false → credential_in k ≡ none) → (x && y) ≡ false → credential_ingest s k attempt ≡ no_state
 unfolding credential_ingest

@@ -1,5 +1,5 @@
 -- The folds of a credential over bytes (docs/RULES.md, "Host's calls").
-use Rattle.std.specs.Prelude.{ℕ, List}
+use Rattle.std.specs.Prelude.{ℕ, ◌≡◌, List, Result, Ok, Err}
 use Rattle.std.proofs.Math.Option.{Option, none, some}
 use Rattle.codec_cursor.specs.Readers.{starting}
 use Rattle.registry_state.specs.States.{Registry}
@@ -8,7 +8,9 @@ use Rattle.registry_state_credential.specs.declared.CredentialState.{CredentialS
 use Rattle.registry_wire.specs.Attempts.{decode_of}
 use Rattle.registry_issue.specs.IssueFolds as I
 use Rattle.registry_credential_state.specs.CredentialFolds as W
-use Rattle.host_next.specs.ByteFolds.{whole_of, registry_in, Folded, credential_folded, no_state}
+use Rattle.registry_head.specs.declared.HeadPlaces.{HeadPlaces}
+use Rattle.registry_error.specs.declared.RegistryRejection.{RegistryRejection}
+use Rattle.host_next.specs.ByteFolds.{whole_of, registry_in, Folded, credential_folded, credential_copied, no_state}
 
 -- the credential state that bytes are
 unfoldable pub credential_in : List ℕ → Option CredentialState
@@ -32,3 +34,8 @@ ingest_credential (some g) (some w) attempt = credential_folded (W.ingest_decode
 -- the credential state that bytes are
 unfoldable pub credential_ingest : List ℕ → List ℕ → List ℕ → Folded
 credential_ingest registry credential attempt = ingest_credential (registry_in registry) (credential_in credential) attempt
+
+-- what a fold over bytes hands on: the places of the state that it leaves, or its refusal
+abbrev pub Leaves : List ℕ → List ℕ → Result HeadPlaces RegistryRejection → Folded → Type 0
+Leaves held s (Ok h) f = credential_copied held s h ≡ f
+Leaves held s (Err r) f = Err r ≡ f.answer

@@ -6,8 +6,8 @@ use Rattle.events_tel.specs.declared.Kind.TheVariants.{Vcp, Vrt, Iss, Rev, Bis, 
 use Rattle.registry_wire.specs.Attempts.{Decoded}
 use Rattle.registry_wire.specs.Attempts.Decoded.{malformed, decoded}
 use Rattle.registry_error.specs.declared.RegistryRejection.TheVariants.{Malformed}
-use Rattle.registry_error.specs.declared.Answer.{Answer}
-use Rattle.registry_error.specs.declared.Answer.TheVariants.{Accepted, Rejected}
+use Rattle.registry_error.specs.Errors.{Answer}
+use Rattle.std.specs.Prelude.{Ok, Err}
 
 -- the number of an event's kind
 abbrev pub event_number : Event → ℕ
@@ -20,8 +20,8 @@ event_number (brv said credential prior seal) = kind_number Brv
 
 -- 1: bytes that are no attempt
 abbrev pub decoded_answer : Decoded → Answer
-decoded_answer malformed = Rejected Malformed
-decoded_answer (decoded m) = Accepted
+decoded_answer malformed = Err Malformed
+decoded_answer (decoded m) = Ok tt
 
 -- the value of an attempt: the number of its kind
 abbrev pub decoded_values : Decoded → List ℕ

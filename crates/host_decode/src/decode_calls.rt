@@ -15,12 +15,11 @@ use registry_wire::Attempt;
 pub fn decode(attempt: &[u8], report: &mut [u8; 36]) -> u8
     ensures { (result ≡ answer_number (decoded_answer (decode_of attempt.now))) × (report.new ≡ report_with (decoded_answer (decode_of attempt.now)) (decoded_values (decode_of attempt.now))) }
 {
-    let d = Attempt::decode(attempt);
-    if d.ok {
-        let e = d.attempt.event;
-        let kind = e.kind;
-        let number = small(kind.number() as u64);
-        return report_with(Answer::Accepted, Values::One(number), report);
+    match Attempt::decode(attempt) {
+        Some(a) => {
+            let number = small(a.event.kind.number() as u64);
+            report_with(Ok(()), Values::One(number), report)
+        }
+        None => malformed(report),
     }
-    malformed(report)
 }

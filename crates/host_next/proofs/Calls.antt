@@ -17,8 +17,8 @@ use lib.Seq.{sets}
 use Rattle.laws.specs.Room.{room, put}
 use Rattle.laws.proofs.Room.{put-sets, put-none}
 use Rattle.registry_error.specs.declared.RegistryRejection.TheVariants.{Malformed, ShortBuffer}
-use Rattle.registry_error.specs.declared.Answer.{Answer}
-use Rattle.registry_error.specs.declared.Answer.TheVariants.{Accepted, Rejected}
+use Rattle.registry_error.specs.Errors.{Answer}
+use Rattle.std.proofs.Common.{Ok, Err}
 use Rattle.registry_error.specs.Errors.{answer_number}
 use Rattle.registry_answer.specs.Answers.{accepts, accept_if, or_else}
 use Rattle.registry_answer.proofs.AnswerLaws.{or-second, passed}
@@ -43,21 +43,21 @@ module _ (f : Folded) (next : List ℕ) (a : Answer) (size n : ℕ) (report : Li
 
 pub refused : (f : Folded) (next : List ℕ) (x : Answer) (n : ℕ) (report : List ℕ) → x ≡ f.answer → accepts x ≡ false → (n ≡ answer_number x) × (report ≡ answer_report x) → called n report next ≡ call_of f next
 unfolding call_of answer_in
-refused f next Accepted n report e t h = absurd (false≢true (sym t))
-refused f next (Rejected r) n report e t h = rw (h.0, h.1, ← e)
+refused f next (Ok u) n report e t h = absurd (false≢true (sym t))
+refused f next (Err r) n report e t h = rw (h.0, h.1, ← e)
 
-pub is-accepted : (x : Answer) → accepts x ≡ true → Accepted ≡ x
-is-accepted Accepted h = refl
-is-accepted (Rejected r) h = absurd (false≢true h)
+pub is-accepted : (x : Answer) → accepts x ≡ true → (Ok tt) ≡ x
+is-accepted (Ok u) h = refl
+is-accepted (Err r) h = absurd (false≢true h)
 
-next-left-by : (bytes next left : List ℕ) (size n : ℕ) (report : List ℕ) (t : Bool) → leb (length bytes) (length next) ≡ t → size ≡ length bytes → (n ≡ answer_number (accept_if t ShortBuffer)) × (report ≡ sized_report (accept_if t ShortBuffer) size) → left ≡ put next 0 bytes → called n report left ≡ call_of (record { answer = Accepted; bytes = bytes }) next
+next-left-by : (bytes next left : List ℕ) (size n : ℕ) (report : List ℕ) (t : Bool) → leb (length bytes) (length next) ≡ t → size ≡ length bytes → (n ≡ answer_number (accept_if t ShortBuffer)) × (report ≡ sized_report (accept_if t ShortBuffer) size) → left ≡ put next 0 bytes → called n report left ≡ call_of (record { answer = (Ok tt); bytes = bytes }) next
 unfolding call_of answer_in accept_if
 next-left-by bytes next left size n report true e g h p =
     rw (h.0, h.1, p, put-sets next 0 (length bytes) bytes refl (omega (arith, leb-true (length bytes) (length next) e)), g, e)
 next-left-by bytes next left size n report false e g h p =
     rw (h.0, h.1, p, put-none next 0 (length bytes) bytes refl (omega (arith, leb-false (length bytes) (length next) e)), e)
 
-pub next-left : (bytes next left : List ℕ) (size n : ℕ) (report : List ℕ) (a : Answer) (t : Bool) → t ≡ room next 0 (length bytes) → a ≡ accept_if t ShortBuffer → size ≡ length bytes → (n ≡ answer_number a) × (report ≡ sized_report a size) → left ≡ put next 0 bytes → called n report left ≡ call_of (record { answer = Accepted; bytes = bytes }) next
+pub next-left : (bytes next left : List ℕ) (size n : ℕ) (report : List ℕ) (a : Answer) (t : Bool) → t ≡ room next 0 (length bytes) → a ≡ accept_if t ShortBuffer → size ≡ length bytes → (n ≡ answer_number a) × (report ≡ sized_report a size) → left ≡ put next 0 bytes → called n report left ≡ call_of (record { answer = (Ok tt); bytes = bytes }) next
 unfolding room
 next-left bytes next left size n report a t e f g h p =
     let z : leb (length bytes) (length next) ≡ t = ap (λ (k : ℕ). leb k (length next)) (sym (zero-add (length bytes))) ∙ sym e in

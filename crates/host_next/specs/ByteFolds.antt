@@ -3,17 +3,17 @@ use Rattle.std.specs.Prelude.{ℕ, cond, ◌&&◌, List, [], eqb, leb, length}
 use Rattle.std.proofs.Math.Option.{Option, none, some}
 use Rattle.std.proofs.lemmas.List.Edits.{sets}
 use Rattle.cesr.specs.Primitives.{read_matter}
-use Rattle.cesr_sn.specs.declared.Sn.{Sn}
 use Rattle.codec_cursor.specs.Readers.{starting}
 use Rattle.codec_cursor.specs.declared.Read.{Read}
 use Rattle.registry_head.specs.HeadBytes.{head_bytes}
+use Rattle.registry_head.specs.declared.HeadPlaces.{HeadPlaces}
 use Rattle.registry_room.specs.NextStates.{next_bytes}
 use Rattle.registry_room.specs.declared.NextState.{NextState}
 use Rattle.registry_state.specs.States.{Registry, registry_bytes, read_registry}
 use Rattle.registry_state_credential.specs.CredentialStates.{credential_bytes}
 use Rattle.registry_error.specs.declared.RegistryRejection.TheVariants.{Malformed, ShortBuffer}
-use Rattle.registry_error.specs.declared.Answer.{Answer}
-use Rattle.registry_error.specs.declared.Answer.TheVariants.{Accepted, Rejected}
+use Rattle.registry_error.specs.Errors.{Answer}
+use Rattle.std.specs.Prelude.{Ok, Err}
 use Rattle.registry_error.specs.Errors.{answer_number}
 use Rattle.registry_answer.specs.Answers.{accepts, accept_if, or_else}
 use Rattle.registry_inception.specs.InceptionFolds as N
@@ -40,16 +40,16 @@ credential_folded o = record { answer = o.answer; bytes = credential_bytes o.sta
 
 -- a fold that accepts, and the bytes of a next state that is made from bytes
 abbrev pub next_folded : List ℕ → List ℕ → NextState → Folded
-next_folded held s p = record { answer = Accepted; bytes = next_bytes held s p }
+next_folded held s p = record { answer = (Ok tt); bytes = next_bytes held s p }
 
--- the same of a credential state: registry and credential stand in one list, the digest of the last event in another
-abbrev pub credential_copied : List ℕ → ℕ → ℕ → Sn → List ℕ → ℕ → Folded
-credential_copied held registry credential sn s head =
-    record { answer = Accepted; bytes = head_bytes (read_matter held registry) (read_matter held credential) sn (read_matter s head) }
+-- the same of a credential state, whose primitives stand at places in the two lists
+abbrev pub credential_copied : List ℕ → List ℕ → HeadPlaces → Folded
+credential_copied held s h =
+    record { answer = (Ok tt); bytes = head_bytes (read_matter held h.first) (read_matter held h.second) h.sn (read_matter s h.last) }
 
 -- 1 before everything: bytes that are handed in as a state and are none
 abbrev pub no_state : Folded
-no_state = record { answer = Rejected Malformed; bytes = [] }
+no_state = record { answer = Err Malformed; bytes = [] }
 
 -- the answer of a call: the fold's, then 30, where `next` is shorter than the state's bytes
 unfoldable pub answer_in : Folded → List ℕ → Answer

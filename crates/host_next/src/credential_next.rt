@@ -2,7 +2,6 @@
 ghost use Rattle.std.specs.Prelude.{◌≡◌};
 ghost use Rattle.host_next.specs.ByteFolds.{credential_copied, called, call_of};
 
-use cesr_sn::Sn;
 use host_report::report::report_sized;
 use registry_answer::answer::accept_if;
 use registry_error::RegistryRejection;
@@ -11,23 +10,14 @@ use registry_head::head::copy_credential;
 
 pub fn leave_credential(
     held: &[u8],
-    registry: usize,
-    credential: usize,
-    sn: Sn,
     s: &[u8],
-    head: usize,
+    head: &HeadPlaces,
     next: &mut [u8],
     report: &mut [u8; 36],
 ) -> u8
-    ensures { called result report.new next.new ≡ call_of (credential_copied held.now registry credential sn s.now head) next.old }
+    ensures { called result report.new next.new ≡ call_of (credential_copied held.now s.now head.now) next.old }
 {
-    let places = HeadPlaces {
-        first: registry,
-        second: credential,
-        sn,
-        last: head,
-    };
-    let ok = copy_credential(held, s, &places, next);
+    let ok = copy_credential(held, s, head, next);
     let answer = accept_if(ok, RegistryRejection::ShortBuffer);
     report_sized(answer, 115, report)
 }

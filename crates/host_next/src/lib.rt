@@ -3,3 +3,5 @@
 
 pub mod credential_next;
 pub mod registry_next;
+
+pub use registry_head::HeadPlaces;

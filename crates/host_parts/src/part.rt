@@ -20,7 +20,7 @@ pub fn is_whole(c: Cursor, s: &[u8]) -> bool
 pub fn malformed(report: &mut [u8; 36]) -> u8
     ensures { (result ≡ 1) × (report.new ≡ rejection_report Malformed) }
 {
-    report_answer(Answer::Rejected(RegistryRejection::Malformed), report)
+    report_answer(Err(RegistryRejection::Malformed), report)
 }
 
 // A fold's answer, and behind it the check that its state finds room.

@@ -6,17 +6,17 @@ ghost use Rattle.registry_state.specs.States.{registry_bytes};
 ghost use Rattle.registry_management.specs.Managements.{view_management};
 ghost use Rattle.registry_room.specs.NextStates.{next_bytes};
 ghost use Rattle.registry_inception.specs.InceptionFolds.{incepted_at};
-ghost use Rattle.registry_rotation_read.specs.Rotations.{rotated_at};
+ghost use Rattle.registry.specs.RegistryFolds.{rotated_at};
 ghost use Rattle.host_next.specs.ByteFolds.{called, call_of};
-ghost use Rattle.host_registry.specs.RegistryByteFolds.{registry_incept, registry_ingest};
+ghost use Rattle.host_registry.specs.RegistryByteFolds.{registry_incept, registry_ingest, Leaves};
 
 use cesr_sn::Sn;
 use codec_cursor::Cursor;
 use events_tel::Listed;
 use host_next::registry_next::leave_next;
-use host_parts::part::{is_whole, malformed};
+use host_parts::part::is_whole;
 use host_report::report::report_answer;
-use registry_answer::answer::accepts;
+use registry_error::RegistryRejection;
 use registry_inception::Inception;
 use registry_inception::registry::incept_read;
 use registry_management::{Management, read_management};
@@ -50,12 +50,10 @@ fn made_of(o: Inception) -> NextState
 pub fn registry_incept(attempt: &[u8], next: &mut [u8], report: &mut [u8; 36]) -> u8
     ensures { called result report.new next.new ≡ call_of (registry_incept attempt.now) next.old }
 {
-    let o = incept_read(attempt);
-    let answer = o.answer;
-    if accepts(answer) {
-        return leave_next(attempt, attempt, made_of(o), next, report);
+    match incept_read(attempt) {
+        Ok(o) => leave_next(attempt, attempt, made_of(o), next, report),
+        Err(refusal) => report_answer(Err(refusal), report),
     }
-    report_answer(answer, report)
 }
 
 // What a vrt's state is made of. A state begins with its id, in 33 bytes, and its issuer.
@@ -80,19 +78,24 @@ fn rotated_of(g: Management, current: Listed, o: RotationRead) -> NextState
     }
 }
 
+// What a vrt leaves, in its places in the state's bytes and the attempt's.
+fn rotated(state: &[u8], attempt: &[u8]) -> Result<NextState, RegistryRejection>
+    ensures { Leaves state.now attempt.now result (registry_ingest state.now attempt.now) }
+{
+    let g = read_management(Cursor::start(), state);
+    if !is_whole(g.next, state) {
+        return Err(RegistryRejection::Malformed);
+    }
+    let o = ingest_read(&g.value, g.backers, state, attempt)?;
+    Ok(rotated_of(g.value, g.backers, o))
+}
+
 // A vrt.
 pub fn registry_ingest(state: &[u8], attempt: &[u8], next: &mut [u8], report: &mut [u8; 36]) -> u8
     ensures { called result report.new next.new ≡ call_of (registry_ingest state.now attempt.now) next.old }
 {
-    let g = read_management(Cursor::start(), state);
-    if !is_whole(g.next, state) {
-        return malformed(report);
+    match rotated(state, attempt) {
+        Ok(p) => leave_next(state, attempt, p, next, report),
+        Err(refusal) => report_answer(Err(refusal), report),
     }
-    let o = ingest_read(g.value, g.backers, state, attempt);
-    let answer = o.answer;
-    if accepts(answer) {
-        let p = rotated_of(g.value, g.backers, o);
-        return leave_next(state, attempt, p, next, report);
-    }
-    report_answer(answer, report)
 }

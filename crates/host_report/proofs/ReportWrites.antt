@@ -13,8 +13,8 @@ use Rattle.laws.proofs.Number.{length_digits}
 use Rattle.laws.proofs.Room.{put-sets, put-append}
 use Rattle.cesr_sn.specs.declared.Sn.{Sn}
 use Rattle.cesr_sn.specs.Numbers.{value, sn_bytes}
-use Rattle.registry_error.specs.declared.Answer.{Answer}
-use Rattle.registry_error.specs.declared.Answer.TheVariants.{Accepted, Rejected}
+use Rattle.registry_error.specs.Errors.{Answer}
+use Rattle.std.proofs.Common.{Ok, Err}
 use Rattle.host_report.specs.Reports.{report_bytes, report_with}
 
 -- a run as long as the list stands in its place
@@ -37,5 +37,5 @@ unfolding report_bytes
 length-report number letter awaited values = simp (length-append, length_digits)
 
 pub length-answer : (a : Answer) (values : List ℕ) → length (report_with a values) ≡ 36
-length-answer Accepted values = length-report _ _ _ _
-length-answer (Rejected r) values = length-report _ _ _ _
+length-answer (Ok u) values = length-report _ _ _ _
+length-answer (Err r) values = length-report _ _ _ _

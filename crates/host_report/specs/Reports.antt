@@ -2,8 +2,8 @@
 use Rattle.std.specs.Prelude.{ℕ, List, [], ◌∷◌, ◌++◌, cond, eqb, length, get_or}
 use Rattle.laws.specs.Number.{digits}
 use Rattle.registry_error.specs.declared.RegistryRejection.{RegistryRejection}
-use Rattle.registry_error.specs.declared.Answer.{Answer}
-use Rattle.registry_error.specs.declared.Answer.TheVariants.{Accepted, Rejected}
+use Rattle.registry_error.specs.Errors.{Answer}
+use Rattle.std.specs.Prelude.{Ok, Err}
 use Rattle.registry_disposition.specs.Dispositions.{letter_of, awaited_of}
 use Rattle.registry_error.specs.Errors.{number_of, disposition_of, details_of}
 
@@ -23,8 +23,8 @@ rejection_report r = report_bytes (number_of r) (letter_of (disposition_of r)) (
 
 -- the answer to an attempt: after acceptance the values are the call's own
 abbrev pub report_with : Answer → List ℕ → List ℕ
-report_with Accepted values = accepted_report values
-report_with (Rejected r) values = rejection_report r
+report_with (Ok u) values = accepted_report values
+report_with (Err r) values = rejection_report r
 
 -- the ledger's call gives no values
 abbrev pub answer_report : Answer → List ℕ

@@ -19,6 +19,7 @@ fn put_marks(out: &mut [u8], number: u8, letter: u8, awaited: u8, count: u8)
     out[3] = count;
 }
 
+// The number and the letter are bytes of the report's layout, which C reads, and so no enums.
 pub fn write_report(
     number: u8,
     letter: u8,
@@ -46,8 +47,8 @@ pub fn report_with(answer: Answer, values: Values, report: &mut [u8; 36]) -> u8
     ensures { (result ≡ answer_number answer) × (report.new ≡ report_with answer (values_of values)) }
 {
     match answer {
-        Answer::Accepted => write_report(0, b'A', 0, values, report),
-        Answer::Rejected(r) => report_rejection(r, report),
+        Ok(()) => write_report(0, b'A', 0, values, report),
+        Err(r) => report_rejection(r, report),
     }
 }
 

@@ -3,14 +3,14 @@ use Rattle.std.specs.Prelude.{ℕ, List, [], ◌∷◌, Result, Ok, Err}
 use Rattle.events_toad.specs.declared.Toad.{Toad}
 use Rattle.events_toad.specs.declared.ToadError.{ToadError}
 use Rattle.registry_error.specs.declared.RegistryRejection.TheVariants.{BackerThreshold}
-use Rattle.registry_error.specs.declared.Answer.{Answer}
-use Rattle.registry_error.specs.declared.Answer.TheVariants.{Accepted, Rejected}
+use Rattle.registry_error.specs.Errors.{Answer}
+use Rattle.std.specs.Prelude.{Ok, Err}
 use Rattle.host_report.specs.Reports.{report_with}
 
 -- a threshold, or why there is none, as an answer; and its toad, 0 where there is none
 abbrev pub threshold_answer : Result Toad ToadError → Answer
-threshold_answer (Ok t) = Accepted
-threshold_answer (Err e) = Rejected BackerThreshold
+threshold_answer (Ok t) = Ok tt
+threshold_answer (Err e) = Err BackerThreshold
 
 abbrev pub toad_in : Result Toad ToadError → ℕ
 toad_in (Ok t) = t.0

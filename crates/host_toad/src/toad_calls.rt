@@ -13,8 +13,8 @@ fn threshold(res: Result<Toad, ToadError>) -> Answer
     ensures { result ≡ threshold_answer res }
 {
     match res {
-        Ok(_) => Answer::Accepted,
-        Err(_) => Answer::Rejected(RegistryRejection::BackerThreshold),
+        Ok(_) => Ok(()),
+        Err(_) => Err(RegistryRejection::BackerThreshold),
     }
 }
 

@@ -4,9 +4,10 @@
 --     stored, short    what is found of the image, and of a buffer that is too short for it
 --     registries-counted, rows-counted   the counts are the ledger's
 --     key-read         the key that a record asks for
+--     answer-kept      an answer without its ledger has the same number
 --     facts-found      what is found of the whole
 use Rattle.std.specs.Prelude.{Result, Ok, Err}
-use Rattle.std.specs.Result.{result_unwrap_or}
+use Rattle.std.specs.Result.{result_and, result_unwrap_or}
 use Prim.Native.Nat.{ℕ, suc, ◌+◌, ◌*◌, ◌%◌, ◌≤◌}
 use mathlib.Core.Path.{◌≡◌, refl, ap, ◌∙◌}
 use mathlib.Core.Bool.{Bool, true, false, cond, ◌&&◌}
@@ -30,9 +31,8 @@ use Rattle.ledger_written.proofs.WrittenBytes.{bytes-held, size_or}
 use Rattle.ledger_written.specs.Writes.{view_written}
 use Rattle.ledger_table.specs.declared.Ledger as Value
 use Rattle.ledger_table.specs.Tables.{view_ledger, ledger_after}
-use Rattle.images.specs.declared.answer.Facts.{Facts}
 use Rattle.images.specs.declared.answer.Image.{Image}
-use Rattle.images.specs.Judgement.{digest_up_to, digest_of, stored_of, refused_short, short_of, key_in, facts_of}
+use Rattle.images.specs.Judgement.{digest_up_to, digest_of, stored_of, refused_short, short_of, key_in, Told, facts_of}
 
 pub digest-more : (s : List ℕ) (i c b : ℕ) → c ≡ digest_up_to s i → b ≡ get_or s i 0 → (c * 31 + b + 1) % 4294967291 ≡ digest_up_to s (i + 1)
 unfolding digest_up_to
@@ -87,6 +87,10 @@ pub refusal-is : (f : Result Standing Malformed) → refusal_of f ≡ (view_look
 refusal-is (Ok s) = refl
 refusal-is (Err e) = refl
 
-pub facts-found : (a : ImageAnswer) (before l : Ledger) (k : Pair) (out other : List ℕ) (n gs ws : ℕ) (i : Image) (s : Bool) (rf sf : ℕ) (f : LookedUp) → n ≡ image_number a → l ≡ ledger_after a before → gs ≡ l.registry_count → ws ≡ l.row_count → i ≡ stored_of (written_of l out) → s ≡ short_of l i.size other → rf ≡ f.refusal → sf ≡ f.standing → f ≡ look_up l k → ◌≡◌ {A = Facts} (record { number = n; registries = gs; rows = ws; size = i.size; digest = i.digest; short = s; refusal = rf; standing = sf }) (facts_of a before k out other)
+pub answer-kept : {A : Type 0} (r : Result A Malformed) (done : Result Unit Malformed) → refusal_of done ≡ 0 → refusal_of (result_and r done) ≡ refusal_of r
+answer-kept (Ok x) done h = h
+answer-kept (Err e) done h = refl
+
+pub facts-found : (a : ImageAnswer) (before l : Ledger) (k : Pair) (out other : List ℕ) (n gs ws : ℕ) (i : Image) (s : Bool) (rf sf : ℕ) (f : LookedUp) → n ≡ image_number a → l ≡ ledger_after a before → gs ≡ l.registry_count → ws ≡ l.row_count → i ≡ stored_of (written_of l out) → s ≡ short_of l i.size other → rf ≡ f.refusal → sf ≡ f.standing → f ≡ look_up l k → ◌≡◌ {A = Told} (record { number = n; registries = gs; rows = ws; size = i.size; digest = i.digest; short = s; refusal = rf; standing = sf }) (facts_of a before k out other)
 unfolding facts_of
 facts-found a before l k out other n gs ws i s rf sf f en el eg ew ei es er et ef = rw (en, ← el, eg, ew, es, ← ei, er, et, ← ef)

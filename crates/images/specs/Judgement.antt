@@ -4,6 +4,8 @@ use Rattle.laws.specs.Number.{number_at}
 use Rattle.cesr.specs.Primitives.{read_matter}
 use Rattle.registry_laws.specs.Pairs.{Pair}
 use Rattle.ledger_step.specs.Ledgers.{Ledger, look_up}
+use Rattle.ledger_step.specs.Refusals.{refusal_of}
+use Rattle.ledger_standing.specs.Lookups.{view_looked_up}
 use Rattle.ledger_image.specs.Images.{ImageAnswer, Written, image_number, written_of}
 use Rattle.ledger_table.specs.Tables.{ledger_after}
 use Rattle.images.specs.declared.answer.Facts.{Facts}
@@ -35,8 +37,25 @@ short_of l size out = cond (eqb size 0) false (cond (ltb (length out) size) fals
 unfoldable pub key_in : List ℕ → Pair
 key_in e = record { registry = record { 0 = read_matter e 12 }; credential = record { 0 = read_matter e 45 } }
 
+-- what comes of an image, in the numbers that a record expects and a line prints
+pub record Told : Type 0 where
+  pub number : ℕ
+  pub registries : ℕ
+  pub rows : ℕ
+  pub size : ℕ
+  pub digest : ℕ
+  pub short : Bool
+  pub refusal : ℕ
+  pub standing : ℕ
+
+-- what the code's facts stand for
+abbrev pub view_facts : Facts → Told
+view_facts f =
+    record
+    { number = refusal_of f.read; registries = f.registries; rows = f.rows; size = f.size; digest = f.digest; short = f.short; refusal = (view_looked_up f.found).refusal; standing = (view_looked_up f.found).standing }
+
 -- what comes of an image that is read into a ledger: the number, and of what is then held the counts, the image, and the key's standing
-unfoldable pub facts_of : ImageAnswer → Ledger → Pair → List ℕ → List ℕ → Facts
+unfoldable pub facts_of : ImageAnswer → Ledger → Pair → List ℕ → List ℕ → Told
 facts_of a before k out other =
     let l = ledger_after a before in
     let i = stored_of (written_of l out) in
@@ -45,7 +64,7 @@ facts_of a before k out other =
     { number = image_number a; registries = l.registry_count; rows = l.row_count; size = i.size; digest = i.digest; short = short_of l i.size other; refusal = f.refusal; standing = f.standing }
 
 -- whether the facts are those that a record's first bytes expect; the buffer that is too short has no byte there
-unfoldable pub agrees_of : Facts → List ℕ → Bool
+unfoldable pub agrees_of : Told → List ℕ → Bool
 agrees_of f e =
     (eqb f.number (number_at e 0 1) && (eqb f.registries (number_at e 1 1) && eqb f.rows (number_at e 2 2)))
     && ((eqb f.size (number_at e 4 2) && eqb f.digest (number_at e 6 4))

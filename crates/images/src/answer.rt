@@ -5,7 +5,7 @@ ghost use Rattle.ledger_standing.specs.Lookups.{view_looked_up};
 ghost use Rattle.ledger_image.specs.Images.{image_of, written_of};
 ghost use Rattle.ledger_written.specs.Writes.{view_written};
 ghost use Rattle.ledger_table.specs.Tables.{view_ledger, ledger_after};
-ghost use Rattle.images.specs.Judgement.{digest_of, stored_of, refused_short, short_of, key_in, facts_of, agrees_of};
+ghost use Rattle.images.specs.Judgement.{digest_of, stored_of, refused_short, short_of, key_in, view_facts, facts_of, agrees_of};
 
 use cesr::{Matter, Said};
 use cesr_number::number::{read_u8, read_u16, read_u32};
@@ -17,9 +17,9 @@ use ledger_written::WriteError;
 
 #[derive(Clone, Copy)]
 pub struct Facts {
-    // What reading answers: 0 or the refusal 1.
-    pub number: u8,
-    // How many are held then.
+    // What reading answers.
+    pub read: Result<(), Malformed>,
+    // How many are held then. They are counts, up to 16 and 256, as a record has them.
     pub registries: usize,
     pub rows: usize,
     // The image that is written then.
@@ -27,9 +27,8 @@ pub struct Facts {
     pub digest: u64,
     // Whether a buffer that is a byte too short for it is refused with 30, and keeps its bytes.
     pub short: bool,
-    // What the look-up answers, in the numbers that a record expects and that are printed.
-    pub refusal: u8,
-    pub standing: u8,
+    // What the look-up answers.
+    pub found: Result<Standing, Malformed>,
 }
 
 #[derive(Clone, Copy)]
@@ -44,8 +43,8 @@ struct Image {
     digest: u64,
 }
 
-// The number of an answer that may have the refusal 1.
-fn number<T>(answer: Result<T, Malformed>) -> u8
+// The number of an answer that may have the refusal 1, as a record has it and a line prints it. A Result has no numbers of its own, so none is derived.
+pub(crate) fn number<T>(answer: Result<T, Malformed>) -> u8
 where
     T: Drop,
     ensures { result ≡ refusal_of answer }
@@ -56,8 +55,8 @@ where
     }
 }
 
-// After a refusal there is no standing.
-fn standing_number(answer: Result<Standing, Malformed>) -> u8
+// The number of a look-up's standing, as a record has it and a line prints it: 0 after a refusal, where there is none.
+pub(crate) fn standing_number(answer: Result<Standing, Malformed>) -> u8
     ensures { result ≡ (view_looked_up answer).standing }
 {
     match answer {
@@ -81,7 +80,7 @@ fn digest(s: &[u8]) -> u64
 fn written(ledger: Ledger, out: &mut [u8]) -> Image
     ensures { result ≡ stored_of (written_of (view_ledger ledger) out.old) }
 {
-    let answer = write_image(ledger, out);
+    let answer = write_image(&ledger, out);
     let size = answer.unwrap_or(0);
     let digest = digest(&out[..size]);
     Image { size, digest }
@@ -102,7 +101,7 @@ fn refused_short(ledger: Ledger, out: &mut [u8]) -> bool
     ensures { result ≡ refused_short (view_ledger ledger) out.old }
 {
     let before = digest(out);
-    let answer = write_image(ledger, out);
+    let answer = write_image(&ledger, out);
     is_short_buffer(answer) & (digest(out) == before)
 }
 
@@ -128,7 +127,7 @@ pub(crate) fn answer(
     out: &mut [u8],
     other: &mut [u8],
 ) -> Answered
-    ensures facts { result.facts ≡ facts_of (image_of image.now) (view_ledger ledger) (key_in first.now) out.old other.old }
+    ensures facts { view_facts result.facts ≡ facts_of (image_of image.now) (view_ledger ledger) (key_in first.now) out.old other.old }
     ensures ledger { view_ledger result.ledger ≡ ledger_after (image_of image.now) (view_ledger ledger) }
 {
     let read = read_image(ledger, image);
@@ -137,16 +136,15 @@ pub(crate) fn answer(
     let short = is_short(held, w.size, other);
     let registry = Said(Matter::read(first, 12));
     let credential = Said(Matter::read(first, 45));
-    let found = look_up(held, registry, credential);
+    let found = look_up(&held, registry, credential);
     let facts = Facts {
-        number: number(read),
+        read: read.and(Ok(())),
         registries: held.registry_count,
         rows: held.row_count,
         size: w.size,
         digest: w.digest,
         short,
-        refusal: number(found),
-        standing: standing_number(found),
+        found,
     };
     Answered {
         facts,
@@ -156,14 +154,14 @@ pub(crate) fn answer(
 
 // Whether the bytes before a record's key say the same.
 pub(crate) fn agrees(f: Facts, first: &[u8]) -> bool
-    ensures { result ≡ agrees_of f first.now }
+    ensures { result ≡ agrees_of (view_facts f) first.now }
 {
-    let number = f.number == read_u8(first, 0);
+    let read = number(f.read) == read_u8(first, 0);
     let registries = f.registries == read_u8(first, 1) as usize;
     let rows = f.rows == read_u16(first, 2) as usize;
     let size = f.size == read_u16(first, 4) as usize;
     let digest = f.digest == read_u32(first, 6) as u64;
-    let refusal = f.refusal == read_u8(first, 10);
-    let standing = f.standing == read_u8(first, 11);
-    (number & (registries & rows)) & ((size & digest) & (f.short & (refusal & standing)))
+    let refusal = number(f.found) == read_u8(first, 10);
+    let standing = standing_number(f.found) == read_u8(first, 11);
+    (read & (registries & rows)) & ((size & digest) & (f.short & (refusal & standing)))
 }

@@ -10,7 +10,7 @@ mod answer;
 
 ghost use Rattle.std.specs.Prelude.{◌≡◌, length};
 
-use answer::{Facts, agrees, answer};
+use answer::{Facts, agrees, answer, number, standing_number};
 use cesr_number::number::read_u16;
 use ledger_table::Ledger;
 use reading::{Next, read_full, read_part};
@@ -46,9 +46,12 @@ fn other_buffer() -> [u8; 65536]
 
 // A line for an image, as `3 0 3 4 929 0 1`: its position from 1, the number, what is held, the length, and the look-up's answer.
 fn print_line(rt: &impl Print, position: u64, f: Facts, agrees: bool) -> io::Result<()> {
+    let read = number(f.read);
+    let refusal = number(f.found);
+    let standing = standing_number(f.found);
     print!(rt;
-        "{position} {} {} {} {} {} {}",
-        f.number, f.registries, f.rows, f.size, f.refusal, f.standing
+        "{position} {read} {} {} {} {refusal} {standing}",
+        f.registries, f.rows, f.size
     )?;
     if !agrees {
         print!(rt; " differs")?;

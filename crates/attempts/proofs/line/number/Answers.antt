@@ -1,4 +1,4 @@
 use Rattle.attempts.proofs.line.number.Goals as goal
 
-pub returns-in-Rejected : goal.returns-in-Rejected
-returns-in-Rejected c = rw c.in-Rejected.is c.number.ensures
+pub returns-in-Err : goal.returns-in-Err
+returns-in-Err c = rw c.in-Err.is c.number.ensures

@@ -1,20 +1,16 @@
 use mathlib.Core.Path.{◌∙◌}
-use lib.ListN.{replicate}
-use borrow.Author.Tests.{not-true, not-false}
-use Rattle.folds_judge.proofs.CredentialCases.{credential-found, issue-unread, issue-read}
+use Rattle.registry_state_credential.specs.CredentialStates.{no_credential}
+use Rattle.registry_issue.specs.IssueFolds.{incept_of}
+use Rattle.folds_judge.specs.Judgement.{judge_issue}
+use Rattle.folds_judge.proofs.Laws.{blank-credential}
 use Rattle.folds_judge.proofs.credential_case.judge_issue.Goals as goal
 
-pub returns-then-not-g : goal.returns-then-not-g
-returns-then-not-g c =
-    let a = c.args in
-    let g = c.read_registry-g.result in
-    c.unread.ensures ∙ issue-unread a.expected.now a.next.now a.registry.now a.attempt.now g c.read_registry-g.ensures.view (not-true g.ok c.if-not-g.true)
+pub returns-in-Some : goal.returns-in-Some
+unfolding judge_issue incept_of
+returns-in-Some c =
+    c.credential_agrees.ensures no_credential
+    ∙ rw (c.incept.ensures, ← c.in-Some.ensures.view, c.in-Some.ensures.well, blank-credential)
 
-pub returns : goal.returns
-returns c =
-    let a = c.args in
-    let g = c.read_registry-g.result in
-    let e = a.expected.now in
-    let next = a.next.now in
-    credential-found e next (replicate 115 0) c.incept-o.result _ c.same_report-told.result c.credential_agrees.result c.incept-o.ensures c.same_report-told.ensures c.credential_agrees.ensures
-    ∙ issue-read e next a.registry.now a.attempt.now g c.read_registry-g.ensures.view (not-false g.ok c.if-not-g.false) c.read_registry-g.ensures.well
+pub returns-in-None : goal.returns-in-None
+unfolding judge_issue
+returns-in-None c = c.unread.ensures ∙ rw (← c.in-None.ensures.view)

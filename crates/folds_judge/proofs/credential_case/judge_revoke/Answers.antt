@@ -1,23 +1,20 @@
 use mathlib.Core.Path.{◌∙◌}
-use mathlib.Core.Bool.{◌&&◌}
-use borrow.Author.Tests.{not-true, not-false}
-use Rattle.folds_judge.proofs.CredentialCases.{credential-found, revoke-unread, revoke-read}
+use Rattle.registry_credential_state.specs.CredentialFolds.{ingest_of}
+use Rattle.folds_judge.specs.Judgement.{judge_revoke}
 use Rattle.folds_judge.proofs.credential_case.judge_revoke.Goals as goal
 
-pub returns-then-not-g-w : goal.returns-then-not-g-w
-returns-then-not-g-w c =
-    let a = c.args in
-    let g = c.read_registry-g.result in
-    let w = c.read_credential-w.result in
-    c.unread.ensures ∙ revoke-unread a.expected.now a.next.now a.registry.now a.attempt.now g c.read_registry-g.ensures.view a.held.now w c.read_credential-w.ensures (not-true (g.ok && w.ok) c.if-not-g-w.true-raw)
+pub returns-in_default : goal.returns-in_default
+unfolding judge_revoke
+returns-in_default c = c.unread.ensures ∙ rw (← c.in_default.ensures.view)
+
+pub returns-in_default-read_credential : goal.returns-in_default-read_credential
+unfolding judge_revoke
+returns-in_default-read_credential c =
+    c.unread-in_default-read_credential.ensures ∙ rw (← c.in-Some.ensures.view, ← c.in_default-read_credential.ensures.view)
 
 pub returns : goal.returns
+unfolding judge_revoke ingest_of
 returns c =
-    let a = c.args in
-    let g = c.read_registry-g.result in
-    let w = c.read_credential-w.result in
-    let e = a.expected.now in
-    let next = a.next.now in
-    let held = a.held.now in
-    credential-found e next held c.ingest-o.result _ c.same_report-told.result c.credential_agrees.result c.ingest-o.ensures c.same_report-told.ensures c.credential_agrees.ensures
-    ∙ revoke-read e next a.registry.now a.attempt.now g c.read_registry-g.ensures.view held w c.read_credential-w.ensures (not-false (g.ok && w.ok) c.if-not-g-w.false-raw) c.read_registry-g.ensures.well
+    let w = c.in-Some-read_credential in
+    c.credential_agrees.ensures w.w
+    ∙ rw (c.ingest.ensures, ← c.in-Some.ensures.view, ← w.ensures.view, c.in-Some.ensures.well, w.ensures.well, w.ensures.bytes)

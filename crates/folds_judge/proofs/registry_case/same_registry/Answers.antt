@@ -1,11 +1,12 @@
 use Prim.Native.Nat.{◌≤◌}
-use mathlib.Core.Path.{◌≡◌, sym, ◌∙◌}
+use mathlib.Core.Path.{◌≡◌, sym}
 use native.Mathlib.Omega.{arith}
 use borrow.Author.Rules.{rules}
 use lib.ListN.{length}
 use lib.Seq.{length-take-le}
 use Rattle.laws.proofs.Views.{length-mapped}
 use Rattle.events_tel.proofs.ConfigLaws as C
+use Rattle.events_tel.proofs.ConfigLaws.{pointwise_same}
 use Rattle.events.proofs.MemberLaws as M
 use Rattle.registry_state.specs.States.{view_registry, registry_bytes}
 use Rattle.registry_state.specs.declared.RegistryState.{RegistryState}
@@ -23,8 +24,8 @@ slice_bounds-out-end c =
     let fit = fits c.args.g (search rules) (search (length-mapped, c.well_formed.0.1.1.1.1.1.1.1.1)) in
     omega (arith, fit, c.size-n.ensures)
 
-pub slice_bounds-same-end : goal.slice_bounds-same-end
-slice_bounds-same-end c =
+pub slice_bounds-eq-end : goal.slice_bounds-eq-end
+slice_bounds-eq-end c =
     let fit = fits c.args.g (search rules) (search (length-mapped, c.well_formed.0.1.1.1.1.1.1.1.1)) in
     sym (length-take-le _ _ (omega (arith, fit, c.size-n.ensures)))
 
@@ -32,4 +33,4 @@ pub returns : goal.returns
 returns c =
     let bytes = registry_bytes (view_registry c.args.g) in
     let fit = fits c.args.g (search rules) (search (length-mapped, c.well_formed.0.1.1.1.1.1.1.1.1)) in
-    c.same.ensures ∙ rw (c.write.ensures.1, c.size-n.ensures, written _ bytes fit)
+    rw (c.eq.ensures, c.write.ensures.1, c.size-n.ensures, written _ bytes fit, pointwise_same)

@@ -1,6 +1,6 @@
 use mathlib.Core.Path.{◌≡◌, ap, ◌∙◌}
 use Rattle.registry_answer.specs.Answers.{accepts}
-use Rattle.registry_error.specs.declared.Answer.{Answer}
+use Rattle.registry_error.specs.Errors.{Answer}
 use Rattle.registry_error.specs.Errors.{answer_number}
 use Rattle.host_report.specs.Reports.{answer_report}
 use Rattle.ledger_step.specs.Steps.{step_of}

@@ -1,20 +1,16 @@
-use mathlib.Core.Path.{sym, ap, ◌∙◌}
+use mathlib.Core.Path.{refl, ap, ◌∙◌}
+use Rattle.std.proofs.Common.{Err}
 use Rattle.host_next.specs.ByteFolds.{Folded, call_of}
 use Rattle.host_next.proofs.Calls.{refused}
-use Rattle.host_registry.specs.RegistryByteFolds.{registry_incept}
-use Rattle.host_registry.proofs.InceptionCalls.{incepted-next, incept-answer}
+use Rattle.host_registry.proofs.InceptionCalls.{incepted-next, incept-refused}
 use Rattle.host_registry.proofs.registry_calls.registry_incept.Goals as goal
 
-pub returns-then-accepts : goal.returns-then-accepts
-returns-then-accepts c =
+pub returns-in-Ok : goal.returns-in-Ok
+returns-in-Ok c =
     let a = c.args in
-    let s = a.attempt.now in
-    let h = sym c.accepts.ensures ∙ c.if-accepts.true in
     c.leave_next.ensures
-    ∙ ap (λ (f : Folded). call_of f a.next.now) (incepted-next s c.incept_read-o.result c.incept_read-o.ensures _ h (c.made_of.ensures s))
+    ∙ ap (λ (f : Folded). call_of f a.next.now) (incepted-next a.attempt.now c.in-Ok.o c.in-Ok.ensures _ (c.made_of.ensures a.attempt.now))
 
-pub returns : goal.returns
-returns c =
-    let a = c.args in
-    let s = a.attempt.now in
-    refused (registry_incept s) a.next.now _ _ _ (incept-answer s c.incept_read-o.result c.incept_read-o.ensures) (sym c.accepts.ensures ∙ c.if-accepts.false) c.report_answer.ensures
+pub returns-in-Err : goal.returns-in-Err
+returns-in-Err c =
+    refused _ c.args.next.now (Err c.in-Err.refusal) _ _ (incept-refused c.args.attempt.now _ c.in-Err.ensures) refl c.report_answer.ensures
