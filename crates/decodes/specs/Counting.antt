@@ -1,5 +1,6 @@
--- Where a group is counted.
-use Rattle.std.specs.Prelude.{ℕ, cond, leb}
+-- Where a group is counted, and what is counted of a finding.
+use Rattle.std.specs.Prelude.{ℕ, List, [], ◌∷◌, Bool, cond, leb}
+use Rattle.decodes.specs.declared.Finding.{Finding}
 use Rattle.decodes.specs.declared.Group.{Group}
 use Rattle.decodes.specs.declared.Group.TheVariants.{Other, Vectors, Cut, Long, Limits, Letters, Ranges}
 
@@ -15,3 +16,7 @@ group_place Ranges = 6
 -- by a record's byte: 1 to 6 have a place of their own, any other has 0
 abbrev pub place_of : ℕ → ℕ
 place_of byte = cond (leb byte 6) byte 0
+
+-- the first count is of malformed attempts, the second of those as expected
+abbrev pub tests_of : Finding → List Bool
+tests_of f = f.malformed ∷ f.agrees ∷ []

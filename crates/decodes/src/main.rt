@@ -3,7 +3,8 @@
 #![tactic(auto)]
 
 ghost use Rattle.std.specs.Prelude.{◌≡◌, ◌≤◌};
-ghost use Rattle.decodes.specs.Counting.{group_place, place_of};
+ghost use Rattle.tally.specs.Counts.{tallied_of};
+ghost use Rattle.decodes.specs.Counting.{group_place, place_of, tests_of};
 ghost use Rattle.decodes.specs.Judgement.{judge_of};
 
 use reading::{Next, read_full, read_part};
@@ -120,15 +121,23 @@ fn print_mark(rt: &impl Print, malformed: bool, count: u64) -> io::Result<()> {
     Ok(())
 }
 
+// Counts an attempt in its group and in all: that it is malformed, and that it is as expected.
+fn count_attempt(groups: &mut Groups, judged: Judged)
+    ensures { groups.new ≡ tallied_of groups.old (group_place judged.group) (tests_of judged.finding) }
+{
+    let Judged { group, finding } = judged;
+    groups.count(group.place(), [finding.malformed, finding.agrees]);
+}
+
 // Whether the input ends behind a record. A loop has to end, and nothing says that the input does. So it has a number of turns that no
 // run uses up.
 fn run(rt: &impl Print, reader: &mut impl Read, groups: &mut Groups) -> io::Result<bool> {
     let mut buffer = [0u8; 65536];
     for _ in 0..u64::MAX {
         match next_record(reader, &mut buffer)? {
-            Next::Record(Judged { group, finding }) => {
-                groups.count(group.place(), [finding.malformed, finding.agrees]);
-                print_mark(rt, finding.malformed, groups.total.all)?;
+            Next::Record(judged) => {
+                count_attempt(groups, judged);
+                print_mark(rt, judged.finding.malformed, groups.total.all)?;
             }
             Next::End => return Ok(true),
             Next::Broken => return Ok(false),

@@ -9,7 +9,8 @@
 #![tactic(auto)]
 
 ghost use Rattle.std.specs.Prelude.{◌≡◌};
-ghost use Rattle.folds.specs.Counting.{place_of};
+ghost use Rattle.tally.specs.Counts.{tallied_of};
+ghost use Rattle.folds.specs.Counting.{place_of, tests_of};
 
 use folds_judge::Finding;
 use folds_judge::judge::{body_size, judge_record};
@@ -45,6 +46,10 @@ fn next_record(reader: &mut impl Read, buffer: &mut [u8]) -> io::Result<Next<Cas
         _ => return Ok(Next::Broken),
     }
     let length = body_size(&head);
+    // Of a record that there is no room for, none of the body is read.
+    if buffer.len() < length {
+        return Ok(Next::Broken);
+    }
     let body = read_part(reader, buffer, length)?;
     if body.len() < length {
         return Ok(Next::Broken);
@@ -56,23 +61,28 @@ fn next_record(reader: &mut impl Read, buffer: &mut [u8]) -> io::Result<Next<Cas
     }))
 }
 
+// Counts a case at its number and in all: that it agrees, that its states can't be read, and that the Rust gives another number.
+fn count_case(numbers: &mut Numbers, case: Case)
+    ensures { numbers.new ≡ tallied_of numbers.old (place_of case.number) (tests_of case) }
+{
+    let Case {
+        number,
+        rust,
+        finding,
+    } = case;
+    numbers.count(
+        place(number),
+        [finding.agrees, !finding.read, number != rust],
+    );
+}
+
 // Whether the input ends behind a record. A loop has to end, and nothing says that the input does. So it has a number of turns that no
 // run uses up.
 fn run(reader: &mut impl Read, numbers: &mut Numbers) -> io::Result<bool> {
     let mut buffer = [0u8; 65536];
     for _ in 0..u64::MAX {
         match next_record(reader, &mut buffer)? {
-            Next::Record(case) => {
-                let Case {
-                    number,
-                    rust,
-                    finding,
-                } = case;
-                numbers.count(
-                    place(number),
-                    [finding.agrees, !finding.read, number != rust],
-                );
-            }
+            Next::Record(case) => count_case(numbers, case),
             Next::End => return Ok(true),
             Next::Broken => return Ok(false),
         }

@@ -9,6 +9,8 @@
 mod answer;
 
 ghost use Rattle.std.specs.Prelude.{◌≡◌, length};
+ghost use Rattle.tally.specs.Counts.{counted_of};
+ghost use Rattle.images.specs.Counting.{tests_of};
 
 use answer::{Facts, agrees, answer, number, standing_number};
 use cesr_number::number::read_u16;
@@ -59,6 +61,13 @@ fn print_line(rt: &impl Print, position: u64, f: Facts, agrees: bool) -> io::Res
     println!(rt)
 }
 
+// Counts an image, and that it came to what was expected.
+fn count_image(images: &mut Count<1>, agrees: bool)
+    ensures { images.new ≡ counted_of images.old (tests_of agrees) }
+{
+    images.count([agrees]);
+}
+
 // How many images there were and how many came to what was expected are counted. It answers whether the input ends behind a record.
 // A loop has to end, and nothing says that the input does. So it has a number of turns that no run uses up.
 fn run(rt: &impl Print, reader: &mut impl Read, images: &mut Count<1>) -> io::Result<bool> {
@@ -73,7 +82,7 @@ fn run(rt: &impl Print, reader: &mut impl Read, images: &mut Count<1>) -> io::Re
                 let a = answer(ledger, &first, image, &mut out, &mut other);
                 let agrees = agrees(a.facts, &first);
                 ledger = a.ledger;
-                images.count([agrees]);
+                count_image(images, agrees);
                 print_line(rt, images.all, a.facts, agrees)?;
             }
             Next::End => return Ok(true),
