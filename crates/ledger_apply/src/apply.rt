@@ -2,7 +2,7 @@
 ghost use Rattle.std.specs.Prelude.{◌≡◌};
 ghost use Rattle.ledger_rows.specs.Ledgers.{lent_ledger};
 ghost use Rattle.ledger_rows.specs.Steps.{request_of, effect, step_of};
-ghost use Rattle.ledger_stores.specs.Applies.{lent, Stores, answer_to, lent_after};
+ghost use Rattle.ledger_stores.specs.Applies.{lent, view_lent, Stores, answer_to, lent_after};
 
 use crate::found::{registry_found, row_found};
 use ledger_answers::Change;
@@ -26,6 +26,7 @@ fn change(
     attempt: &[u8],
 ) -> Result<Change, RegistryRejection>
     ensures answer { answer_to result ≡ (step_of (lent_ledger registries.now registry_count rows.now row_count) attempt.now).answer }
+    ensures ledger { view_lent (lent_after result (lent registries.now registry_count rows.now row_count)) ≡ (step_of (lent_ledger registries.now registry_count rows.now row_count) attempt.now).ledger }
     ensures stored { Stores (effect (lent_ledger registries.now registry_count rows.now row_count) (request_of attempt.now)) (lent registries.now registry_count rows.now row_count) (lent_after result (lent registries.now registry_count rows.now row_count)) }
 {
     if !sound(registries, registry_count, rows, row_count) {

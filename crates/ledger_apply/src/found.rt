@@ -5,7 +5,7 @@ ghost use Rattle.ledger_stores.specs.Effects.{registry_found, row_found};
 use cesr::Said;
 use ledger_answers::Found;
 use ledger_registries::registries::find_registry;
-use ledger_rows::rows::find_at;
+use ledger_rows::rows::{find_at, used_row};
 use ledger_step::slices::used_at;
 use registry_state::RegistryState;
 use registry_state_credential::CredentialState;
@@ -27,6 +27,6 @@ pub fn row_found(
     ensures { result ≡ row_found rows.now count registry credential }
 {
     let at = find_at(rows, count, registry, credential);
-    let state = used_at(rows, count, at);
+    let state = used_row(rows, count, at);
     Found { at, count, state }
 }

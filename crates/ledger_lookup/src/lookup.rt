@@ -6,10 +6,9 @@ ghost use Rattle.ledger_standing.specs.Lookups.{view_looked_up, key_pair};
 
 use cesr::Said;
 use ledger_check::check::sound;
-use ledger_rows::rows::find_at;
+use ledger_rows::rows::{find_at, used_row};
 use ledger_standing::lookup::standing;
 use ledger_standing::{Malformed, Standing};
-use ledger_step::slices::used_at;
 use registry_state::RegistryState;
 use registry_state_credential::CredentialState;
 
@@ -23,7 +22,7 @@ fn find_row(
     ensures { result ≡ slice_get (take row_count rows.now) (find_at rows.now row_count registry credential) }
 {
     let at = find_at(rows, row_count, registry, credential);
-    used_at(rows, row_count, at)
+    used_row(rows, row_count, at)
 }
 
 // The standing of a credential. A ledger that breaks a reading rule has none, nor has a key whose parts are no saids. The parts of the ledger are handed in one by one: a `Ledger` has arrays of one length, and a slice here has any, with a count that may be past its end.

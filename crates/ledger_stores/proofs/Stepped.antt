@@ -13,18 +13,15 @@ use Rattle.registry_state.specs.declared.RegistryState.{RegistryState}
 use Rattle.registry_state_credential.specs.declared.CredentialState.{CredentialState}
 use Rattle.ledger_rows.specs.Pairs.{Pair, key_of}
 use Rattle.ledger_rows.specs.Tables.{put, place}
-use Rattle.ledger_rows.specs.Ledgers.{Held, Ledger, held_of, id_of, eq_pair, lent_ledger}
+use Rattle.ledger_rows.specs.Ledgers.{Held, held_of, id_of, eq_pair, lent_ledger}
 use Rattle.ledger_rows.specs.Steps.{Effect, request_of, effect, changed, step_of}
 use Rattle.ledger_rows.specs.Steps.Effect.{refuse, new_registry, set_registry, new_row, set_row}
 use Rattle.ledger_rows.specs.Rows.{find_at}
 use Rattle.ledger_rows.proofs.PlaceLaws.{put-place}
 use Rattle.ledger_registries.specs.Registries.{find_registry}
 use Rattle.ledger_registries.proofs.RegistryViews.{stored-registry}
-use Rattle.ledger_stores.specs.Applies.{Lent, lent, Stores}
+use Rattle.ledger_stores.specs.Applies.{Lent, lent, view_lent, Stores}
 use Rattle.ledger_stores.proofs.Fits.{Fits, effect-fits}
-
-abbrev pub view_lent : Lent → Ledger
-view_lent b = lent_ledger b.registries b.registry_count b.rows b.row_count
 
 module _ (gs : List RegistryState) (m : ℕ) (ws : List CredentialState) (n : ℕ) where
   abbrev a : Lent

@@ -4,7 +4,7 @@ use Rattle.registry_error.specs.declared.RegistryRejection.{RegistryRejection}
 use Rattle.registry_error.specs.Errors.{Answer}
 use Rattle.registry_state.specs.declared.RegistryState.{RegistryState}
 use Rattle.registry_state_credential.specs.declared.CredentialState.{CredentialState}
-use Rattle.ledger_rows.specs.Ledgers.{held_of}
+use Rattle.ledger_rows.specs.Ledgers.{Ledger, held_of, lent_ledger}
 use Rattle.ledger_rows.specs.Steps.{Effect, held_now}
 use Rattle.ledger_rows.specs.Steps.Effect.{refuse, new_registry, set_registry, new_row, set_row}
 use Rattle.ledger_rows.specs.Rows.{find_at}
@@ -21,6 +21,10 @@ pub record Lent : Type 0 where
 
 abbrev pub lent : List RegistryState → ℕ → List CredentialState → ℕ → Lent
 lent gs m ws n = record { registries = gs; registry_count = m; rows = ws; row_count = n }
+
+-- the ledger that they are
+abbrev pub view_lent : Lent → Ledger
+view_lent b = lent_ledger b.registries b.registry_count b.rows b.row_count
 
 -- What stands in the slices before and after the effect. A refusal leaves every state and both counts; any other effect stores one state, a new one
 -- at the count, and leaves every other state, also those past the counts.
