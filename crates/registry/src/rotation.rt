@@ -84,7 +84,9 @@ pub fn rotation<C: Prefixes>(
 ) -> Result<RotationRead, RegistryRejection>
     ensures { rotation_at (view_management g.now (C.list current)) s.now result ≡ ingest_decoded (view_management g.now (C.list current)) (decode_of s.now) }
 {
-    let a = Attempt::decode(s).ok_or(RegistryRejection::Malformed)?;
+    let Some(a) = Attempt::decode(s) else {
+        return Err(RegistryRejection::Malformed);
+    };
     ingest_answer(g, current, &a, s)?;
     Ok(RotationRead {
         sn: a.event.sn,

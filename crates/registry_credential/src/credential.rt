@@ -50,22 +50,24 @@ impl CredentialVerifier {
     pub fn status(s: &[u8]) -> StatusOutcome
         ensures { result ≡ status_of s.now }
     {
-        let x = StatusInput::decode(s).ok_or(StatusError::Malformed)?;
-        judge(x)
+        let Some(x) = StatusInput::decode(s) else {
+            return Err(StatusError::Malformed);
+        };
+        judge(&x)
     }
 }
 
 // What has to be there comes before what has to agree.
-fn judge(x: StatusInput) -> StatusOutcome
-    ensures { result ≡ judged (view_status x) }
+fn judge(x: &StatusInput) -> StatusOutcome
+    ensures { result ≡ judged (view_status x.now) }
 {
-    let registry = x.registry.ok_or(CredentialError::MissingRegistry)?;
+    let registry = x.registry.as_ref().ok_or(CredentialError::MissingRegistry)?;
     let credential = x.credential.ok_or(CredentialError::MissingCredentialState)?;
     let prefix = x.prefix.ok_or(CredentialError::MissingIssuerState)?;
     let Reference::Named(named) = x.reference else {
         return Err(StatusError::Credential(CredentialError::MissingRegistryReference));
     };
-    judge_binding(&x, &registry, credential, prefix, named)
+    judge_binding(x, registry, credential, prefix, named)
 }
 
 // What is there has to be about this credential, and the credential unrevoked.

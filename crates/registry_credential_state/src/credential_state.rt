@@ -70,7 +70,9 @@ fn event_answer(g: &Management, a: &Attempt, s: &[u8]) -> Answer
 pub fn ingest_read(held: bool, g: &Management, s: &[u8]) -> Result<Revocation, RegistryRejection>
     ensures { (l : List BasicPrefix) (w : CredentialState) → held ≡ eq_said w.registry g.now.id → revocation_at (view_management g.now l) w s.now result ≡ ingest_decoded (view_management g.now l) w (decode_of s.now) }
 {
-    let a = Attempt::decode(s).ok_or(RegistryRejection::Malformed)?;
+    let Some(a) = Attempt::decode(s) else {
+        return Err(RegistryRejection::Malformed);
+    };
     if !held {
         return Err(RegistryRejection::InconsistentRegistry);
     }

@@ -67,7 +67,9 @@ fn incept_answer(a: &Attempt, s: &[u8]) -> Answer
 pub fn incept_read(s: &[u8]) -> Result<Inception, RegistryRejection>
     ensures { inception_at s.now result ≡ incept_of s.now }
 {
-    let a = Attempt::decode(s).ok_or(RegistryRejection::Malformed)?;
+    let Some(a) = Attempt::decode(s) else {
+        return Err(RegistryRejection::Malformed);
+    };
     incept_answer(&a, s)?;
     Ok(Inception {
         said: a.event.said,

@@ -68,7 +68,9 @@ fn event_answer(g: &Management, a: &Attempt, s: &[u8]) -> Answer
 pub fn incept_read(g: &Management, s: &[u8]) -> Result<Issue, RegistryRejection>
     ensures { (l : List BasicPrefix) → issue_at (view_management g.now l) s.now result ≡ incept_decoded (view_management g.now l) (decode_of s.now) }
 {
-    let a = Attempt::decode(s).ok_or(RegistryRejection::Malformed)?;
+    let Some(a) = Attempt::decode(s) else {
+        return Err(RegistryRejection::Malformed);
+    };
     event_answer(g, &a, s)?;
     Ok(Issue {
         own: own_signatures(&a),

@@ -4,7 +4,7 @@ use Rattle.registry.proofs.rotation.rotation.Goals as goal
 
 pub returns-in_err-ingest_answer : goal.returns-in_err-ingest_answer
 returns-in_err-ingest_answer g c =
-    rw (handed-on _ _ c.from_residual-in_err-ingest_answer.ensures.1) (rotation-refused _ _ _ (rw c.in_ok-a.ensures.ok_part at c.decode.ensures.view) _ c.in_err-ingest_answer.ensures)
+    rw (handed-on _ _ c.from_residual.ensures.1) (rotation-refused _ _ _ c.in-Some.ensures.view _ c.in_err-ingest_answer.ensures)
 
 pub returns : goal.returns
-returns g c = rotation-accepted _ _ c.in_ok-a.a (rw c.in_ok-a.ensures.ok_part at c.decode.ensures.view) c.in_ok-ingest_answer.ensures
+returns g c = rotation-accepted _ _ _ c.in-Some.ensures.view c.in_ok-ingest_answer.ensures
